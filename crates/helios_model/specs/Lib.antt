@@ -1,1 +1,9 @@
 pub mod Limits
+pub mod Ids
+pub mod Distinct
+pub mod Transaction
+pub mod Asking
+pub mod Conflict
+pub mod TransactionLimits
+pub mod Setting
+pub mod Offset

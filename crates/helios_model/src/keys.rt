@@ -5,11 +5,12 @@ use crate::numbers::Bytes;
 use std::alloc::AllocError;
 use std::marker::Model;
 
-
 fn is_key(bytes: &[u8]) -> bool
     ensures { IsTrue result ↔ IsKey bytes.now }
 {
-    bytes.len() >= 1 && bytes.len() <= 64 && bytes.iter().all(|b| *b >= 33 && *b <= 126 && *b != b'=')
+    bytes.len() >= 1
+        && bytes.len() <= 64
+        && bytes.iter().all(|b| *b >= 33 && *b <= 126 && *b != b'=')
 }
 
 /// The key of a stored value: 1 to 64 bytes of printable ASCII, with neither a blank nor `=`.
@@ -57,6 +58,7 @@ impl PartialEq for Key {
     ghost use Rattle.std.specs.Prelude.{nat_eq};
     ghost use Rattle.std.specs.Cmp.Lexicographic.{pointwise, nat_list_eq_equiv};
     ghost use Rattle.std.specs.Cmp.{partial_equiv_from_equiv};
+
     ghost eq = { pointwise nat_eq };
 
     ghost laws = { partial_equiv_from_equiv nat_list_eq_equiv };
@@ -68,6 +70,7 @@ impl PartialEq for Key {
 
 impl Eq for Key {
     ghost use Rattle.std.specs.Cmp.Lexicographic.{nat_list_eq_equiv};
+
     ghost laws = { nat_list_eq_equiv };
 }
 
@@ -116,6 +119,7 @@ impl PartialEq for Val {
     ghost use Rattle.std.specs.Prelude.{nat_eq};
     ghost use Rattle.std.specs.Cmp.Lexicographic.{pointwise, nat_list_eq_equiv};
     ghost use Rattle.std.specs.Cmp.{partial_equiv_from_equiv};
+
     ghost eq = { pointwise nat_eq };
 
     ghost laws = { partial_equiv_from_equiv nat_list_eq_equiv };
@@ -127,5 +131,6 @@ impl PartialEq for Val {
 
 impl Eq for Val {
     ghost use Rattle.std.specs.Cmp.Lexicographic.{nat_list_eq_equiv};
+
     ghost laws = { nat_list_eq_equiv };
 }

@@ -1,0 +1,49 @@
+use Rattle.std.specs.Prelude.{◌≡◌, ◌≢◌, ℕ, ◌+◌, ◌*◌, ◌<◌, ◌≤◌, List, length, All, IsTrue, slice_index}
+use Rattle.helios_model.specs.Limits.{IsName, most_sites, longest_trip, greatest_latency}
+use Rattle.helios_model.specs.Distinct.{all_differ}
+
+-- the sites by name, and the round trips between them in microseconds, row after row
+pub record Distances : Type 0 where
+  pub names : List (List ℕ)
+  pub trips : List ℕ
+
+-- the same with each site's commit latency in half microseconds
+pub record Setting : Type 0 where
+  pub names : List (List ℕ)
+  pub trips : List ℕ
+  pub latencies : List ℕ
+
+abbrev pub count_of : Setting → ℕ
+count_of plan = length plan.names
+
+-- the round trip between two sites of so many, in microseconds
+abbrev pub trip_at : ℕ → List ℕ → ℕ → ℕ → ℕ
+trip_at count trips i j = slice_index trips (i * count + j)
+
+abbrev pub rtt : Setting → ℕ → ℕ → ℕ
+rtt plan i j = trip_at (count_of plan) plan.trips i j
+
+abbrev pub latency : Setting → ℕ → ℕ
+latency plan i = slice_index plan.latencies i
+
+-- sites and round trips within the limits: distinct names, symmetric, 0 on the diagonal
+pub record IsMatrix (names : List (List ℕ)) (trips : List ℕ) : Type 0 where
+  pub some : 1 ≤ length names
+  pub few : length names ≤ most_sites
+  pub named : All IsName names
+  pub distinct : IsTrue (all_differ (λ name. name) names)
+  pub square : length trips ≡ length names * length names
+  pub short : All (λ trip. trip ≤ longest_trip) trips
+  pub symmetric : (i j : ℕ) → i < length names → j < length names → trip_at (length names) trips i j ≡ trip_at (length names) trips j i
+  pub diagonal : (i : ℕ) → i < length names → trip_at (length names) trips i i ≡ 0
+
+-- the same with a latency for each site within its limit
+pub record IsPlan (names : List (List ℕ)) (trips latencies : List ℕ) : Type 0 where
+  pub matrix : IsMatrix names trips
+  pub planned : length latencies ≡ length names
+  pub bounded : All (λ half_micros. half_micros ≤ greatest_latency) latencies
+
+-- a plan in which any two sites' latencies together reach their round trip, there and back in half microseconds
+pub record IsAccepted (plan : Setting) : Type 0 where
+  pub limits : IsPlan plan.names plan.trips plan.latencies
+  pub reached : (i j : ℕ) → i < count_of plan → j < count_of plan → i ≢ j → 2 * rtt plan i j ≤ latency plan i + latency plan j

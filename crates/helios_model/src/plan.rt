@@ -1,0 +1,169 @@
+ghost use Rattle.std.specs.Prelude.{◌≡◌, ℕ, ◌<◌, ◌≤◌, ◌*◌, [], length, IfOk, slice_index_or};
+ghost use Rattle.helios_model.specs.Setting.{IsMatrix, IsPlan, count_of, trip_at, rtt, latency};
+
+use crate::ids::SiteId;
+use crate::names::Names;
+use crate::numbers::{Places, Times};
+use std::alloc::AllocError;
+use std::marker::Model;
+
+/// The sites of a cluster and the round trips between them, in microseconds: 1 to 32 distinct names, symmetric, 0 on
+/// the diagonal, none over 1,000,000,000.
+#[derive(Clone, Debug, Drop)]
+pub struct Matrix {
+    names: Names,
+    rtt: Times,
+}
+
+impl Model for Matrix {
+    ghost use Rattle.helios_model.specs.Setting.{Distances, IsMatrix};
+
+    ghost Value = { Distances };
+
+    ghost view = { λ m. record { names = m.names; trips = m.rtt } };
+
+    ghost invariant = { λ m. IsMatrix m.names m.rtt };
+}
+
+impl Matrix {
+    /// The matrix of these names and round trips, row after row.
+    pub fn new(names: Names, rtt: Times) -> Matrix
+        requires { IsMatrix names rtt }
+        ensures { result ≡ record { names = names; trips = rtt } }
+    {
+        Matrix { names, rtt }
+    }
+
+    pub fn count(&self) -> u8
+        ensures value { result ≡ length self.now.names }
+        ensures limits { IsMatrix self.now.names self.now.trips }
+    {
+        self.names.items().len() as u8
+    }
+
+    pub fn name(&self, i: SiteId) -> &str
+        requires { i < length self.now.names }
+        ensures { result.now ≡ slice_index_or self.now.names i [] }
+    {
+        self.names.items()[i.number() as usize].text()
+    }
+
+    /// The round trip between two sites, in microseconds.
+    pub fn rtt(&self, i: SiteId, j: SiteId) -> u64
+        requires row { i < length self.now.names }
+        requires column { j < length self.now.names }
+        ensures { result ≡ trip_at (length self.now.names) self.now.trips i j }
+    {
+        let count = self.names.items().len();
+        self.rtt.items()[i.number() as usize * count + j.number() as usize]
+    }
+
+    pub fn names(&self) -> &Names
+        ensures { result.now ≡ self.now.names }
+    {
+        &self.names
+    }
+
+    /// The round trips, row after row, in microseconds.
+    pub fn trips(&self) -> &Times
+        ensures { result.now ≡ self.now.trips }
+    {
+        &self.rtt
+    }
+}
+
+/// A matrix with the commit latency of each site, in half microseconds, none over 2,000,000,000.
+#[derive(Clone, Debug, Drop)]
+pub struct Plan {
+    names: Names,
+    rtt: Times,
+    latency: Times,
+}
+
+impl Model for Plan {
+    ghost use Rattle.helios_model.specs.Setting.{Setting, IsPlan};
+
+    ghost Value = { Setting };
+
+    ghost view = { λ p. record { names = p.names; trips = p.rtt; latencies = p.latency } };
+
+    ghost invariant = { λ p. IsPlan p.names p.rtt p.latency };
+}
+
+impl Plan {
+    /// The plan of these names, round trips (row after row) and latencies.
+    pub fn new(names: Names, rtt: Times, latency: Times) -> Plan
+        requires { IsPlan names rtt latency }
+        ensures { result ≡ record { names = names; trips = rtt; latencies = latency } }
+    {
+        Plan {
+            names,
+            rtt,
+            latency,
+        }
+    }
+
+    pub fn count(&self) -> u8
+        ensures value { result ≡ count_of self.now }
+        ensures limits { IsPlan self.now.names self.now.trips self.now.latencies }
+    {
+        self.names.items().len() as u8
+    }
+
+    pub fn name(&self, i: SiteId) -> &str
+        requires { i < count_of self.now }
+        ensures { result.now ≡ slice_index_or self.now.names i [] }
+    {
+        self.names.items()[i.number() as usize].text()
+    }
+
+    /// The round trip between two sites, in microseconds.
+    pub fn rtt(&self, i: SiteId, j: SiteId) -> u64
+        requires row { i < count_of self.now }
+        requires column { j < count_of self.now }
+        ensures { result ≡ rtt self.now i j }
+    {
+        let count = self.names.items().len();
+        self.rtt.items()[i.number() as usize * count + j.number() as usize]
+    }
+
+    /// The commit latency of a site, in half microseconds.
+    pub fn latency(&self, i: SiteId) -> u64
+        requires { i < count_of self.now }
+        ensures { result ≡ latency self.now i }
+    {
+        self.latency.items()[i.number() as usize]
+    }
+
+    pub fn names(&self) -> &Names
+        ensures { result.now ≡ self.now.names }
+    {
+        &self.names
+    }
+
+    /// The round trips, row after row, in microseconds.
+    pub fn trips(&self) -> &Times
+        ensures { result.now ≡ self.now.trips }
+    {
+        &self.rtt
+    }
+
+    /// The commit latencies, in half microseconds.
+    pub fn latencies(&self) -> &Times
+        ensures { result.now ≡ self.now.latencies }
+    {
+        &self.latency
+    }
+
+    pub fn copy(&self) -> Result<Plan, AllocError>
+        ensures { IfOk result (λ copied. copied ≡ self.now) }
+    {
+        self.clone()
+    }
+}
+
+/// A pairing of the sites that shows a plan to be optimal: the number of each site's partner.
+#[derive(Clone, Debug, Drop)]
+pub struct Certificate {
+    pub pair: Places,
+}
