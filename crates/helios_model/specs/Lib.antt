@@ -15,3 +15,4 @@ pub mod Step
 pub mod World
 pub mod Serial
 pub mod NamedAbort
+pub mod Texts

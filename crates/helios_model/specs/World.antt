@@ -65,10 +65,10 @@ own_commits site log old = filter (is_own_commit site) (filter_map (commit_in lo
 -- the world after a batch that was made durable and answered
 abbrev pub done : Setting → World → ℕ → List Entry → World
 done plan w site entries = record {
-    journals = slice_set w.journals site (grown (journal_of w site) (journaled entries));
-    told = w.told ++ replies plan (node_of plan w site) entries;
-    history = w.history ++ own_commits site (after_entries plan (node_of plan w site) entries).log (length (node_of plan w site).log)
-  }
+  journals = slice_set w.journals site (grown (journal_of w site) (journaled entries));
+  told = w.told ++ replies plan (node_of plan w site) entries;
+  history = w.history ++ own_commits site (after_entries plan (node_of plan w site) entries).log (length (node_of plan w site).log);
+}
 
 abbrev pub happens : Setting → World → Event → World
 happens plan w (Batch site entries Done) = done plan w site entries
