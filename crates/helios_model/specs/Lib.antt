@@ -16,3 +16,4 @@ pub mod World
 pub mod Serial
 pub mod NamedAbort
 pub mod Texts
+pub mod Laws
