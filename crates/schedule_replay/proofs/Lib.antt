@@ -1,2 +1,4 @@
 pub mod Rests
 pub mod Limits
+pub mod Grows
+pub mod Stands

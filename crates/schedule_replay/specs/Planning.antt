@@ -30,6 +30,13 @@ entry_for log (Request at reads puts) = record { reading = at; input = Inputs.Re
 abbrev pub entries_for : List Record → List Planned → List Entry
 entries_for log inputs = map (entry_for log) inputs
 
+-- the site and the inputs of a planned batch
+abbrev pub site_of : Step → ℕ
+site_of (Steps.Batch site inputs) = site
+
+abbrev pub inputs_of : Step → List Planned
+inputs_of (Steps.Batch site inputs) = inputs
+
 -- the step of the world that a planned step is
 abbrev pub event_for : Setting → World → Step → Event
 event_for plan w (Steps.Batch site inputs) = Batch site (entries_for (node_of plan w site).log inputs) Done
