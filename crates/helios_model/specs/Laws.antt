@@ -2,3 +2,4 @@ pub mod Reached
 pub mod Placed
 pub mod Shapes
 pub mod Pool
+pub mod Order
