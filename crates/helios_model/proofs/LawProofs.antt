@@ -6,3 +6,5 @@ pub mod Push
 pub mod Committed
 pub mod Fits
 pub mod PoolSteps
+pub mod OrderSteps
+pub mod NodeSteps

@@ -3,3 +3,4 @@ pub mod Placed
 pub mod Shapes
 pub mod Pool
 pub mod Order
+pub mod Nodes
