@@ -8,3 +8,6 @@ pub mod Fits
 pub mod PoolSteps
 pub mod OrderSteps
 pub mod NodeSteps
+pub mod SerialSteps
+pub mod Settling
+pub mod Requests
