@@ -6,18 +6,18 @@ use Rattle.std.proofs.lemmas.Bool.{cases_eq, false_from_ne_true}
 use Rattle.std.proofs.lemmas.Nat.{mul-add-lt}
 use Rattle.helios_model.specs.declared.ids.TxnId.{TxnId}
 use Rattle.helios_model.specs.declared.record.Record.{Record}
-use Rattle.helios_model.specs.declared.record.Record.TheVariants.{Prepare, Commit}
+use Rattle.helios_model.specs.declared.record.Record.TheVariants.{Prepare, Commit, Abort}
 use Rattle.helios_model.specs.Ids.{same_id}
 use Rattle.helios_model.specs.Transaction.{Transaction}
 use Rattle.helios_model.specs.Conflict.{conflict}
-use Rattle.helios_model.specs.Setting.{Setting, count_of}
+use Rattle.helios_model.specs.Setting.{Setting, count_of, rtt, latency}
 use Rattle.helios_model.specs.Log.{origin, own_time, finished, prepares, prepare_of, unfinished}
 use Rattle.helios_model.specs.Node.{Node, known, clock, with_clock, with_record}
 use Rattle.helios_model.specs.Settle.{commit_one}
 use Rattle.helios_model.specs.Request.{entered}
 use Rattle.helios_model.specs.Laws.Placed.{IsPlaced}
 use Rattle.helios_model.specs.Laws.Order.{IsNew, IsAsked}
-use Rattle.helios_model.specs.Laws.Nodes.{OwnTimesRise, NodeLaws}
+use Rattle.helios_model.specs.Laws.Nodes.{OwnTimesRise, IsWaited, NodeLaws}
 use Rattle.helios_model.proofs.LawProofs.Lists.{all_from}
 use Rattle.helios_model.proofs.LawProofs.Ids.{same_id_is}
 use Rattle.helios_model.proofs.LawProofs.Push.{prepare_stands}
@@ -37,7 +37,7 @@ known_own plan n r time h =
     let inside : n.site * count_of plan + n.site < length n.table = rw h.sized low in
     get_or-set_same n.table (n.site * count_of plan + n.site) time 0 inside
 
-known_other : (plan : Setting) (n : Node) (r : Record) (time k : ℕ) → k ≢ n.site
+pub known_other : (plan : Setting) (n : Node) (r : Record) (time k : ℕ) → k ≢ n.site
     → known plan (with_clock plan (with_record n r) time) n.site k ≡ known plan n n.site k
 known_other plan n r time k apart =
     get_or-set_other n.table (n.site * count_of plan + n.site) (n.site * count_of plan + k) time 0 (λ same. apart (omega arith))
@@ -46,6 +46,7 @@ known_other plan n r time k apart =
 pub times_own : (plan : Setting) (n : Node) (r : Record) (time : ℕ) → IsWithin plan n → OwnTimesRise plan n → origin r ≡ n.site → own_time r ≡ time
     → clock plan n < time → OwnTimesRise plan (with_clock plan (with_record n r) time)
 times_own plan n r time inside h own timed above = record {
+    positive = All-push (λ x. 0 < own_time x) n.log r h.positive (omega arith);
     rise = all_pairs_push (λ a b. origin a ≡ origin b → own_time a < own_time b) n.log r h.rise before;
     within = All-push (λ x. own_time x ≤ known plan (with_clock plan (with_record n r) time) n.site (origin x)) n.log r still new;
   }
@@ -83,6 +84,17 @@ new_id plan n id h own above = all_from (λ p. same_id p.id id ≡ false) (prepa
         let clocked : id.time ≤ clock plan n = subst (λ k. id.time ≤ known plan n n.site k) own below in
         omega arith)
 
+-- what the node has heard of the others stays, so what waited has waited
+still_waited : (plan : Setting) (n : Node) (r : Record) (time : ℕ) → All (IsWaited plan n) n.log
+    → All (IsWaited plan (with_clock plan (with_record n r) time)) n.log
+still_waited plan n r time h = All-weaker (IsWaited plan n) (IsWaited plan (with_clock plan (with_record n r) time)) by_record n.log h
+  where
+    by_record : (x : Record) → IsWaited plan n x → IsWaited plan (with_clock plan (with_record n r) time) x
+    by_record (Prepare p) w = tt
+    by_record (Commit id t) w = λ own j low apart.
+        subst (λ heard. id.time + latency plan n.site ≤ heard + rtt plan n.site j) (sym (known_other plan n r time j apart)) (w own j low apart)
+    by_record (Abort id t cause) w = tt
+
 pub laws_entered : (plan : Setting) (n : Node) (p : Transaction) → IsWithin plan n → NodeLaws plan n → p.id.site ≡ n.site → clock plan n < p.id.time
     → IsAsked n.log p → NodeLaws plan (entered plan n p)
 laws_entered plan n p inside h own above asked =
@@ -93,6 +105,7 @@ laws_entered plan n p inside h own above asked =
       times = times_own plan n (Prepare p) p.id.time inside h.times own refl above;
       pool = pool_prepare n.site n.log p h.pool new clear (λ its. asked);
       order = order_prepare n.site n.log p h.order new (λ its. asked) clear;
+      waited = All-push (IsWaited plan (entered plan n p)) n.log (Prepare p) (still_waited plan n (Prepare p) p.id.time h.waited) tt;
     }
 
 -- an own transaction that is in the log and not ended
@@ -101,8 +114,21 @@ pub record IsOpen (n : Node) (p : Transaction) : Type 0 where
   pub unended : finished n.log p.id ≡ false
   pub own : p.id.site ≡ n.site
 
-pub laws_committed : (plan : Setting) (n : Node) (p : Transaction) → IsWithin plan n → NodeLaws plan n → IsOpen n p → NodeLaws plan (commit_one plan n p.id)
-laws_committed plan n p inside h o = record {
+-- the node has heard of every other site far enough past the time of the transaction's id
+abbrev pub HasWaited : Setting → Node → Transaction → Type 0
+HasWaited plan n p = (j : ℕ) → j < count_of plan → j ≢ n.site → p.id.time + latency plan n.site ≤ known plan n n.site j + rtt plan n.site j
+
+pub goes_on_waiting : (plan : Setting) (n : Node) (r : Record) (time : ℕ) (p : Transaction) → HasWaited plan n p
+    → HasWaited plan (with_clock plan (with_record n r) time) p
+goes_on_waiting plan n r time p w = λ j low apart.
+    subst (λ heard. p.id.time + latency plan n.site ≤ heard + rtt plan n.site j) (sym (known_other plan n r time j apart)) (w j low apart)
+
+pub laws_committed : (plan : Setting) (n : Node) (p : Transaction) → IsWithin plan n → NodeLaws plan n → IsOpen n p → HasWaited plan n p
+    → NodeLaws plan (commit_one plan n p.id)
+laws_committed plan n p inside h o w = record {
+    waited = All-push (IsWaited plan (commit_one plan n p.id)) n.log (Commit p.id (clock plan n + 1))
+      (still_waited plan n (Commit p.id (clock plan n + 1)) (clock plan n + 1) h.waited)
+      (λ own. goes_on_waiting plan n (Commit p.id (clock plan n + 1)) (clock plan n + 1) p w);
     times = times_own plan n (Commit p.id (clock plan n + 1)) (clock plan n + 1) inside h.times o.own refl (omega arith);
     pool = pool_commit n.site n.log p.id (clock plan n + 1) p h.pool o.found o.unended;
     order = order_commit n.site n.log p.id (clock plan n + 1) h.order (record { prepared = ap (λ x. is_some x) o.found; unended = o.unended });
