@@ -11,3 +11,5 @@ pub mod NodeSteps
 pub mod SerialSteps
 pub mod Settling
 pub mod Requests
+pub mod Starts
+pub mod LogLaws

@@ -4,3 +4,5 @@ pub mod Shapes
 pub mod Pool
 pub mod Order
 pub mod Nodes
+pub mod Logs
+pub mod Histories
