@@ -13,3 +13,6 @@ pub mod Settling
 pub mod Requests
 pub mod Starts
 pub mod LogLaws
+pub mod Replies
+pub mod ReachedWorlds
+
