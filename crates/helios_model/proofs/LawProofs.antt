@@ -15,4 +15,6 @@ pub mod Starts
 pub mod LogLaws
 pub mod Replies
 pub mod ReachedWorlds
-
+pub mod Unheard
+pub mod SerialHistories
+pub mod ToldLaws

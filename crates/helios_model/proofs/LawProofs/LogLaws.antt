@@ -47,7 +47,7 @@ each_log_is_own plan events may k low =
 
 -- ids
 
-prepare_own : (plan : Setting) (w : World) (k : ℕ) (p : Transaction) → k < count_of plan → Contains (prepares (node_of plan w k).log) p → p.id.site ≡ k
+pub prepare_own : (plan : Setting) (w : World) (k : ℕ) (p : Transaction) → k < count_of plan → Contains (prepares (node_of plan w k).log) p → p.id.site ≡ k
 prepare_own plan w k p low there =
     All-contains (λ r. origin r ≡ k) (node_of plan w k).log (Prepare p) (log_own plan w k low) (prepare_stands (node_of plan w k).log p there)
 

@@ -37,7 +37,7 @@ own_gained site log more backed =
       ∙ ap (λ rest. filter (is_own_commit site) (commits log) ++ filter (is_own_commit site) (filter_map (commit_in (log ++ more)) rest))
           (sym (drop_at log more (length log) refl))
 
-gained_own : (site : ℕ) (log : List Record) (old : ℕ) → All (λ e. is_own_commit site e ≡ true) (own_commits site log old)
+pub gained_own : (site : ℕ) (log : List Record) (old : ℕ) → All (λ e. is_own_commit site e ≡ true) (own_commits site log old)
 gained_own site log old = filter_passes (is_own_commit site) (filter_map (commit_in log) (drop old log))
 
 -- a world whose journals are as many as the plan's sites
