@@ -2,7 +2,7 @@
 ghost use Rattle.helios_model.specs.Offset.{OffsetsAreTested};
 ghost use Rattle.helios_model.specs.Laws.Placed.{EachNodeIsPlaced};
 ghost use Rattle.helios_model.specs.Laws.Logs.{EachTimeRises, EachLogIsOwn, EachIdIsGivenOnce, EachEndingFollows, EachConflictIsOrdered, EachEarlierEndsFirst, EachVersionWasCurrent, EachCommitWaited};
-ghost use Rattle.helios_model.specs.Laws.Histories.{SerialAtOneSite, HistoryIsSerial, EachHistoryIsCommits, EachRefusalIsNamed, EachToldCommitStays, EachWorldGrows};
+ghost use Rattle.helios_model.specs.Laws.Histories.{SerialAtOneSite, HistoryIsSerial, EachHistoryIsCommits, EachRefusalIsNamed, EachToldStays, EachWorldGrows};
 
 /// The tests of an offset without a subtraction say what the signed number says.
 pub fn offsets_are_tested()
@@ -81,9 +81,10 @@ pub fn each_refusal_is_named()
     ensures { EachRefusalIsNamed }
 {}
 
-/// The id of each told `Committed` is that of an event of the history.
-pub fn each_told_commit_stays()
-    ensures { EachToldCommitStays }
+/// What each told `Prepared` and `Committed` says stays true: the transaction that was asked for stands in the site's log
+/// under the told id, which is the site's, and each told as committed is that of an event of the history.
+pub fn each_told_stays()
+    ensures { EachToldStays }
 {}
 
 /// Steps only add at the end of what was told, of the history and of each site's log.

@@ -7,7 +7,9 @@ use Rattle.helios_model.specs.declared.input.Entry.{Entry}
 use Rattle.helios_model.specs.declared.reply.Reply.{Reply}
 use Rattle.helios_model.specs.declared.reply.Reply.TheVariants.{Prepared, Committed, Overwritten, Conflict, ClockSpent, PoolFull}
 use Rattle.helios_model.specs.declared.record.Record.{Record}
+use Rattle.helios_model.specs.declared.record.Record.TheVariants.{Prepare}
 use Rattle.helios_model.specs.Asking.{Asking}
+use Rattle.helios_model.specs.Request.{asked}
 use Rattle.helios_model.specs.Setting.{Setting}
 use Rattle.helios_model.specs.Log.{commits}
 use Rattle.helios_model.specs.Node.{Node}
@@ -16,7 +18,7 @@ use Rattle.helios_model.specs.World.{Told, replies}
 use Rattle.helios_model.specs.Laws.Pool.{IsBacked}
 use Rattle.helios_model.proofs.LawProofs.Committed.{commits_grown}
 use Rattle.helios_model.proofs.LawProofs.Settling.{IsKept}
-use Rattle.helios_model.proofs.LawProofs.Requests.{IsGone, IsCommitIn, Says, SaysTo, IsStepped, step_answered, entries_go}
+use Rattle.helios_model.proofs.LawProofs.Requests.{IsGone, IsTakenIn, IsCommittedIn, Says, SaysTo, IsStepped, step_answered, entries_go}
 
 -- a reply that was told of a site with this log: what it says of the records just before its input
 pub record IsToldIn (log : List Record) (t : Told) : Type 0 where
@@ -25,25 +27,32 @@ pub record IsToldIn (log : List Record) (t : Told) : Type 0 where
   pub cut : log ≡ before ++ later
   pub size : length before ≡ t.log_length
   pub backed : All (IsBacked before) before
-  pub says : SaysTo before log t.input t.reply
+  pub says : SaysTo t.site before log t.input t.reply
 
-commit_in_grown : (log more : List Record) (id : TxnId) → All (IsBacked log) log → IsCommitIn log id → IsCommitIn (log ++ more) id
-commit_in_grown log more id backed h = record {
+taken_grown : (site : ℕ) (before log more : List Record) (ask : Asking) (id : TxnId) → IsTakenIn site before log ask id → IsTakenIn site before (log ++ more) ask id
+taken_grown site before log more ask id h = record { own = h.own; stands = Contains-append_left log more (Prepare (asked before id ask)) h.stands }
+
+committed_grown : (site : ℕ) (before log more : List Record) (ask : Asking) (id : TxnId) → All (IsBacked log) log → IsCommittedIn site before log ask id
+    → IsCommittedIn site before (log ++ more) ask id
+committed_grown site before log more ask id backed h = record {
+    taken = taken_grown site before log more ask id h.taken;
     event = h.event;
     stands = subst (λ es. Contains es h.event) (sym (commits_grown log more backed)) (Contains-append_left (commits log) _ h.event h.stands);
-    named = h.named;
+    asked_for = h.asked_for;
   }
 
-says_grown : (before log more : List Record) (ask : Asking) (reply : Reply) → All (IsBacked log) log → Says before log ask reply → Says before (log ++ more) ask reply
-says_grown before log more ask (Prepared id) backed h = tt
-says_grown before log more ask (Committed id) backed h = commit_in_grown log more id backed h
-says_grown before log more ask (Overwritten key version) backed h = h
-says_grown before log more ask (Conflict id) backed h = h
-says_grown before log more ask ClockSpent backed h = tt
-says_grown before log more ask PoolFull backed h = tt
+says_grown : (site : ℕ) (before log more : List Record) (ask : Asking) (reply : Reply) → All (IsBacked log) log → Says site before log ask reply
+    → Says site before (log ++ more) ask reply
+says_grown site before log more ask (Prepared id) backed h = taken_grown site before log more ask id h
+says_grown site before log more ask (Committed id) backed h = committed_grown site before log more ask id backed h
+says_grown site before log more ask (Overwritten key version) backed h = h
+says_grown site before log more ask (Conflict id) backed h = h
+says_grown site before log more ask ClockSpent backed h = tt
+says_grown site before log more ask PoolFull backed h = tt
 
-says_to_grown : (before log more : List Record) (input : Input) (reply : Reply) → All (IsBacked log) log → SaysTo before log input reply → SaysTo before (log ++ more) input reply
-says_to_grown before log more (Request ask) reply backed h = says_grown before log more ask reply backed h
+says_to_grown : (site : ℕ) (before log more : List Record) (input : Input) (reply : Reply) → All (IsBacked log) log → SaysTo site before log input reply
+    → SaysTo site before (log ++ more) input reply
+says_to_grown site before log more (Request ask) reply backed h = says_grown site before log more ask reply backed h
 
 pub told_grown : (log more : List Record) (t : Told) → All (IsBacked log) log → IsToldIn log t → IsToldIn (log ++ more) t
 told_grown log more t backed h = record {
@@ -52,7 +61,7 @@ told_grown log more t backed h = record {
     cut = ap (λ xs. xs ++ more) h.cut ∙ append_assoc h.before h.later more;
     size = h.size;
     backed = h.backed;
-    says = says_to_grown h.before log more t.input t.reply backed h.says;
+    says = says_to_grown t.site h.before log more t.input t.reply backed h.says;
   }
 
 -- the same for the log of a node that went on

@@ -2,6 +2,7 @@ use Rattle.std.proofs.Common.{◌≡◌, ◌≢◌, ◌∙◌, ap, refl, sym, su
 use Rattle.std.proofs.lemmas.List.{append-nil}
 use Rattle.std.proofs.lemmas.List.Elements.{All-nil, All-cons, All-append, All-map, All-weaker, All-contains, Contains-append_right}
 use Rattle.std.proofs.lemmas.List.Folds.{list_any-append}
+use Rattle.std.proofs.lemmas.Option.{same_Some}
 use Rattle.std.proofs.lemmas.Bool.{both_ways, not-true, not-false, cond_both, or_cases}
 use Rattle.helios_model.specs.declared.ids.TxnId.{TxnId}
 use Rattle.helios_model.specs.declared.ids.Version.{Version}
@@ -33,10 +34,11 @@ use Rattle.helios_model.proofs.LawProofs.Placed.{placed_entered}
 use Rattle.helios_model.proofs.LawProofs.Lists.{or_false, some_of, find_passes, find_none, contains_filter_map}
 use Rattle.helios_model.proofs.LawProofs.Ids.{same_id_is, same_id_of, same_version_is, same_version_of}
 use Rattle.helios_model.proofs.LawProofs.Push.{finished_push, unfinished_is, prepare_stands}
-use Rattle.helios_model.proofs.LawProofs.Committed.{commits_prepare}
+use Rattle.helios_model.proofs.LawProofs.Committed.{IsEventOf, event_of, commits_prepare}
 use Rattle.helios_model.proofs.LawProofs.PoolSteps.{fresh_unended}
+use Rattle.helios_model.proofs.LawProofs.OrderSteps.{cut_prepared}
 use Rattle.helios_model.proofs.LawProofs.NodeSteps.{new_id, laws_entered}
-use Rattle.helios_model.proofs.LawProofs.Settling.{IsKept, IsSettled, IsCommitOf, settle_goes}
+use Rattle.helios_model.proofs.LawProofs.Settling.{found_itself, IsKept, IsSettled, IsCommitOf, settle_goes}
 
 -- from n a node went on to m by own records
 pub record IsGone (plan : Setting) (n m : Node) : Type 0 where
@@ -65,6 +67,18 @@ pub record IsCommitIn (records : List Record) (id : TxnId) : Type 0 where
   pub stands : Contains (commits records) event
   pub named : event.prepare.id ≡ id
 
+-- what a request asked for over the records before it is in the log after it, under an id of the site
+pub record IsTakenIn (site : ℕ) (before log : List Record) (ask : Asking) (id : TxnId) : Type 0 where
+  pub own : id.site ≡ site
+  pub stands : Contains log (Prepare (asked before id ask))
+
+-- the same, and it is that of a commit event of the log
+pub record IsCommittedIn (site : ℕ) (before log : List Record) (ask : Asking) (id : TxnId) : Type 0 where
+  pub taken : IsTakenIn site before log ask id
+  pub event : CommitEvent
+  pub stands : Contains (commits log) event
+  pub asked_for : event.prepare ≡ asked before id ask
+
 -- the request reads the key at another version than the current one, which is named
 pub record IsStale (records : List Record) (ask : Asking) (key : List ℕ) (version : Version) : Type 0 where
   pub read : ReadItem
@@ -74,16 +88,16 @@ pub record IsStale (records : List Record) (ask : Asking) (key : List ℕ) (vers
   pub is_current : version ≡ current records key
 
 -- what a reply says of the records before and after its input
-abbrev pub Says : List Record → List Record → Asking → Reply → Type 0
-Says before after ask (Prepared id) = Unit {0}
-Says before after ask (Committed id) = IsCommitIn after id
-Says before after ask (Overwritten key version) = IsStale before ask key version
-Says before after ask (Conflict id) = IsConflict before ask id
-Says before after ask ClockSpent = Unit {0}
-Says before after ask PoolFull = Unit {0}
+abbrev pub Says : ℕ → List Record → List Record → Asking → Reply → Type 0
+Says site before after ask (Prepared id) = IsTakenIn site before after ask id
+Says site before after ask (Committed id) = IsCommittedIn site before after ask id
+Says site before after ask (Overwritten key version) = IsStale before ask key version
+Says site before after ask (Conflict id) = IsConflict before ask id
+Says site before after ask ClockSpent = Unit {0}
+Says site before after ask PoolFull = Unit {0}
 
-abbrev pub SaysTo : List Record → List Record → Input → Reply → Type 0
-SaysTo before after (Request ask) reply = Says before after ask reply
+abbrev pub SaysTo : ℕ → List Record → List Record → Input → Reply → Type 0
+SaysTo site before after (Request ask) reply = Says site before after ask reply
 
 -- the event of a Commit whose Prepare is in the log
 pub event_of_commit : (log : List Record) (id : TxnId) (time : ℕ) → is_some (prepare_of log id) ≡ true → Contains log (Commit id time) → IsCommitIn log id
@@ -120,7 +134,7 @@ settled_commit plan n m id s open_then ended =
 -- the node after an input, and what the answer says
 pub record IsAnswered (plan : Setting) (n : Node) (ask : Asking) (s : Stepped) : Type 0 where
   pub gone : IsGone plan n s.node
-  pub says : Says n.log s.node.log ask s.reply
+  pub says : Says n.site n.log s.node.log ask s.reply
 
 commit_own : (site : ℕ) (r : Record) → IsCommitOf site r → origin r ≡ site
 commit_own site (Prepare p) h = absurd h
@@ -136,26 +150,56 @@ kept_entered plan n p h own above taken = record {
     serial = subst IsSerial (sym (commits_prepare n.log p h.laws.pool.backed)) h.serial;
   }
 
-accept_answered : (plan : Setting) (n : Node) (ask : Asking) (p : Transaction) → IsKept plan n → p.id.site ≡ n.site → clock plan n < p.id.time → IsAsked n.log p
-    → IsAnswered plan n ask (accept plan n p)
-accept_answered plan n ask p h own above taken = answered (settle_goes plan (entered plan n p) (kept_entered plan n p h own above taken))
-  where
-    unended : finished (n.log ++ Prepare p ∷ []) p.id ≡ false
-    unended = finished_push n.log (Prepare p) p.id ∙ or_false (finished n.log p.id)
-      ∙ fresh_unended n.log p.id h.laws.pool.backed (new_id plan n p.id h.laws.times own above)
-    answered : IsSettled plan (entered plan n p) (settle plan (entered plan n p)) → IsAnswered plan n ask (accept plan n p)
-    answered s = record {
+-- a commit event of an id that one Prepare of the log has is that of this Prepare
+event_is : (log : List Record) (p : Transaction) → AllPairs (λ a b. same_id a.id b.id ≡ false) (prepares log) → Contains (prepares log) p
+    → (c : IsCommitIn log p.id) → c.event.prepare ≡ p
+event_is log p ids there c =
+    let home : IsEventOf log c.event = event_of log c.event c.stands in
+    let by_event : prepare_of log c.event.prepare.id ≡ Some c.event.prepare = found_itself log c.event.prepare ids home.prepared in
+    let by_p : prepare_of log p.id ≡ Some p = found_itself log p ids there in
+    same_Some c.event.prepare p (sym by_event ∙ ap (prepare_of log) c.named ∙ by_p)
+
+module _ (plan : Setting) (n : Node) (id : TxnId) (ask : Asking) (h : IsKept plan n) (own : id.site ≡ n.site) (above : clock plan n < id.time)
+    (taken : IsAsked n.log (asked n.log id ask)) where
+  unended : finished (n.log ++ Prepare (asked n.log id ask) ∷ []) id ≡ false
+  unended = finished_push n.log (Prepare (asked n.log id ask)) id ∙ or_false (finished n.log id)
+    ∙ fresh_unended n.log id h.laws.pool.backed (new_id plan n id h.laws.times own above)
+
+  -- the node after Settle
+  abbrev after : Node
+  after = settle plan (entered plan n (asked n.log id ask))
+
+  settled : IsSettled plan (entered plan n (asked n.log id ask)) after
+  settled = settle_goes plan (entered plan n (asked n.log id ask)) (kept_entered plan n (asked n.log id ask) h own above taken)
+
+  prepared_after : Contains (prepares after.log) (asked n.log id ask)
+  prepared_after =
+      let s : IsSettled plan (entered plan n (asked n.log id ask)) after = settled in
+      let whole : after.log ≡ n.log ++ Prepare (asked n.log id ask) ∷ s.more = s.grown ∙ append_assoc n.log (Prepare (asked n.log id ask) ∷ []) s.more in
+      cut_prepared after.log n.log (asked n.log id ask) s.more whole
+
+  taken_in : IsTakenIn n.site n.log after.log ask id
+  taken_in = record { own = own; stands = prepare_stands after.log (asked n.log id ask) prepared_after }
+
+  committed_in : finished after.log id ≡ true → IsCommittedIn n.site n.log after.log ask id
+  committed_in ended =
+      let c : IsCommitIn after.log id = settled_commit plan (entered plan n (asked n.log id ask)) after id settled unended ended in
+      record { taken = taken_in; event = c.event; stands = c.stands;
+        asked_for = event_is after.log (asked n.log id ask) settled.kept.laws.pool.ids prepared_after c }
+
+  accept_answered : IsAnswered plan n ask (accept plan n (asked n.log id ask))
+  accept_answered =
+      let s : IsSettled plan (entered plan n (asked n.log id ask)) after = settled in
+      record {
         gone = record {
-          more = Prepare p ∷ s.more;
-          grown = s.grown ∙ append_assoc n.log (Prepare p ∷ []) s.more;
-          own = All-cons (λ r. origin r ≡ n.site) (Prepare p) s.more own
+          more = Prepare (asked n.log id ask) ∷ s.more;
+          grown = s.grown ∙ append_assoc n.log (Prepare (asked n.log id ask) ∷ []) s.more;
+          own = All-cons (λ r. origin r ≡ n.site) (Prepare (asked n.log id ask)) s.more own
             (All-weaker (IsCommitOf n.site) (λ r. origin r ≡ n.site) (commit_own n.site) s.more s.only);
           same_site = s.same_site;
           kept = s.kept;
         };
-        says = cond_both (finished (settle plan (entered plan n p)).log p.id) (Committed p.id) (Prepared p.id)
-          (Says n.log (settle plan (entered plan n p)).log ask)
-          (λ ended. settled_commit plan (entered plan n p) (settle plan (entered plan n p)) p.id s unended ended) (λ not_yet. tt);
+        says = cond_both (finished after.log id) (Committed id) (Prepared id) (Says n.site n.log after.log ask) committed_in (λ not_yet. taken_in);
       }
 
 follows_asked : (log : List Record) (id : TxnId) (ask : Asking) → stale_read log ask.reads ≡ None → Follows (current log) (asked log id ask)
@@ -173,7 +217,7 @@ clash_answered : (plan : Setting) (n : Node) (reading : ℕ) (ask : Asking) (o :
     → stale_read n.log ask.reads ≡ None → clash n.log (asked n.log (next_id plan n reading) ask) ≡ o
     → IsAnswered plan n ask (by_clash plan n (asked n.log (next_id plan n reading) ask) o)
 clash_answered plan n reading ask None h fresh none =
-    accept_answered plan n ask (asked n.log (next_id plan n reading) ask) h refl (next_own_above plan n reading) (record {
+    accept_answered plan n (next_id plan n reading) ask h refl (next_own_above plan n reading) (record {
       follows = follows_asked n.log (next_id plan n reading) ask fresh;
       alone = find_none (conflict (asked n.log (next_id plan n reading) ask)) (unfinished n.log) none;
     })
@@ -211,7 +255,7 @@ room_answered plan n reading ask false h = stale_answered plan n reading ask (st
 -- the node after an input, and what the answer to it says
 pub record IsStepped (plan : Setting) (n : Node) (input : Input) (s : Stepped) : Type 0 where
   pub gone : IsGone plan n s.node
-  pub says : SaysTo n.log s.node.log input s.reply
+  pub says : SaysTo n.site n.log s.node.log input s.reply
 
 clock_answered : (plan : Setting) (n : Node) (reading : ℕ) (input : Input) (spent : Bool) → IsKept plan n
     → IsStepped plan n input (by_clock plan n reading input spent)

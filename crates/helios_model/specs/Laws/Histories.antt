@@ -1,14 +1,19 @@
-use Rattle.std.specs.Prelude.{◌≡◌, ℕ, ◌<◌, List, [], ◌∷◌, ◌++◌, length, filter, All, Contains}
+use Rattle.std.specs.Prelude.{◌≡◌, ℕ, ◌<◌, List, [], ◌∷◌, ◌++◌, length, take, filter, All, Contains}
 use Rattle.helios_model.specs.declared.ids.TxnId.{TxnId}
+use Rattle.helios_model.specs.declared.input.Input.{Input}
+use Rattle.helios_model.specs.declared.input.Input.TheVariants.{Request}
 use Rattle.helios_model.specs.declared.reply.Reply.{Reply}
 use Rattle.helios_model.specs.declared.reply.Reply.TheVariants.{Prepared, Committed, Overwritten, Conflict, ClockSpent, PoolFull}
 use Rattle.helios_model.specs.declared.record.Record.{Record}
+use Rattle.helios_model.specs.declared.record.Record.TheVariants.{Prepare}
 use Rattle.helios_model.specs.declared.commits.CommitEvent.{CommitEvent}
+use Rattle.helios_model.specs.Asking.{Asking}
 use Rattle.helios_model.specs.Setting.{Setting, IsAccepted, count_of}
 use Rattle.helios_model.specs.Log.{commits}
+use Rattle.helios_model.specs.Request.{asked}
 use Rattle.helios_model.specs.Serial.{IsSerial}
 use Rattle.helios_model.specs.NamedAbort.{ToldIsNamed}
-use Rattle.helios_model.specs.World.{World, Event, MayRun, first_world, node_of, is_own_commit, run}
+use Rattle.helios_model.specs.World.{World, Told, Event, MayRun, first_world, node_of, is_own_commit, run}
 use Rattle.helios_model.specs.World.Event.{Batch}
 use Rattle.helios_model.specs.Laws.Reached.{InEachWorld}
 
@@ -38,22 +43,36 @@ EachHistoryIsCommits = InEachWorld HistoryIsCommits
 abbrev pub EachRefusalIsNamed : Type 0
 EachRefusalIsNamed = InEachWorld (λ plan w. All (ToldIsNamed plan w) w.told)
 
--- the history has an event of this id
-pub record IsInHistory (history : List CommitEvent) (id : TxnId) : Type 0 where
+-- the transaction that a site was asked for over these records stands in its log, under an id of the site
+pub record IsTaken (site : ℕ) (log records : List Record) (ask : Asking) (id : TxnId) : Type 0 where
+  pub own : id.site ≡ site
+  pub stands : Contains log (Prepare (asked records id ask))
+
+-- the same, and it is that of an event of the history
+pub record IsCommitted (site : ℕ) (history : List CommitEvent) (log records : List Record) (ask : Asking) (id : TxnId) : Type 0 where
+  pub taken : IsTaken site log records ask id
   pub event : CommitEvent
   pub stands : Contains history event
-  pub named : event.prepare.id ≡ id
+  pub asked_for : event.prepare ≡ asked records id ask
 
-abbrev pub CommitStays : List CommitEvent → Reply → Type 0
-CommitStays history (Prepared id) = Unit {0}
-CommitStays history (Committed id) = IsInHistory history id
-CommitStays history (Overwritten key version) = Unit {0}
-CommitStays history (Conflict id) = Unit {0}
-CommitStays history ClockSpent = Unit {0}
-CommitStays history PoolFull = Unit {0}
+abbrev pub Stays : ℕ → List CommitEvent → List Record → List Record → Asking → Reply → Type 0
+Stays site history log records ask (Prepared id) = IsTaken site log records ask id
+Stays site history log records ask (Committed id) = IsCommitted site history log records ask id
+Stays site history log records ask (Overwritten key version) = Unit {0}
+Stays site history log records ask (Conflict id) = Unit {0}
+Stays site history log records ask ClockSpent = Unit {0}
+Stays site history log records ask PoolFull = Unit {0}
 
-abbrev pub EachToldCommitStays : Type 0
-EachToldCommitStays = InEachWorld (λ plan w. All (λ t. CommitStays w.history t.reply) w.told)
+abbrev pub StaysTo : ℕ → List CommitEvent → List Record → List Record → Input → Reply → Type 0
+StaysTo site history log records (Request ask) reply = Stays site history log records ask reply
+
+-- a released reply that a transaction was taken or committed is true of what the site was asked for, over the records that
+-- its log had just before the input
+abbrev pub ToldStays : Setting → World → Told → Type 0
+ToldStays plan w t = StaysTo t.site w.history (node_of plan w t.site).log (take t.log_length (node_of plan w t.site).log) t.input t.reply
+
+abbrev pub EachToldStays : Type 0
+EachToldStays = InEachWorld (λ plan w. All (ToldStays plan w) w.told)
 
 -- one list begins with the other
 pub record GrowsTo {X : Type 0} (old new : List X) : Type 0 where
