@@ -1,11 +1,10 @@
-use Rattle.std.proofs.Common.{◌≡◌, ◌∙◌, ap, refl, sym, subst, ℕ, Bool, true, false, cond, ◌||◌, Option, Some, None, is_some, option_map, List, [], ◌∷◌, ◌++◌, fold, filter, filter_map, find, All, Contains}
+use Rattle.std.proofs.Common.{◌≡◌, ◌∙◌, ap, refl, sym, subst, ℕ, true, Option, Some, None, is_some, option_map, List, [], ◌∷◌, ◌++◌, fold, filter_map, All, Contains}
 use Rattle.std.specs.List.{cons_option}
 use Rattle.std.proofs.lemmas.Grind.{fold-append}
 use Rattle.std.proofs.lemmas.List.{append-nil}
-use Rattle.std.proofs.lemmas.List.Elements.{All-nil, All-head, All-tail, All-push, All-weaker, filter_map-append}
+use Rattle.std.proofs.lemmas.List.Elements.{All-head, All-tail, All-push, All-weaker, filter_map-append}
 use Rattle.helios_model.specs.declared.ids.TxnId.{TxnId}
-use Rattle.helios_model.specs.declared.ids.Version.{Version}
-use Rattle.helios_model.specs.declared.ids.Version.TheVariants.{Initial, Of}
+use Rattle.helios_model.specs.declared.ids.Version.TheVariants.{Initial}
 use Rattle.helios_model.specs.declared.record.Record.{Record}
 use Rattle.helios_model.specs.declared.record.Record.TheVariants.{Prepare, Commit, Abort}
 use Rattle.helios_model.specs.declared.commits.CommitEvent.{CommitEvent}
@@ -15,7 +14,7 @@ use Rattle.helios_model.specs.Log.{ends, finished, prepares, prepare_of, event_a
 use Rattle.helios_model.specs.Laws.Pool.{IsBacked}
 use Rattle.helios_model.proofs.LawProofs.Lists.{any_from, find_passes, contains_from_filter_map}
 use Rattle.helios_model.proofs.LawProofs.Ids.{same_id_is, same_id_of}
-use Rattle.helios_model.proofs.LawProofs.Push.{prepare_of_grows, prepares_end, prepares_prepare}
+use Rattle.helios_model.proofs.LawProofs.Push.{prepare_of_grows}
 
 pub backed_grows : (log more : List Record) (r : Record) → IsBacked log r → IsBacked (log ++ more) r
 backed_grows log more (Prepare p) h = tt
@@ -25,7 +24,7 @@ backed_grows log more (Abort id time cause) h = ap (λ o. is_some o) (prepare_of
 pub backed_push : (log : List Record) (r : Record) → All (IsBacked log) log → IsBacked log r → All (IsBacked (log ++ r ∷ [])) (log ++ r ∷ [])
 backed_push log r h new =
     All-push (IsBacked (log ++ r ∷ [])) log r (All-weaker (IsBacked log) (IsBacked (log ++ r ∷ [])) (backed_grows log (r ∷ [])) log h)
-      (backed_grows log (r ∷ []) r new)
+    (backed_grows log (r ∷ []) r new)
 
 commit_in_grown : (log more : List Record) (r : Record) → IsBacked log r → commit_in (log ++ more) r ≡ commit_in log r
 commit_in_grown log more (Prepare p) h = refl
@@ -44,9 +43,9 @@ filter_map_same {X = X} {Y = Y} f g (x ∷ xs) h =
 pub commits_grown : (log more : List Record) → All (IsBacked log) log → commits (log ++ more) ≡ commits log ++ filter_map (commit_in (log ++ more)) more
 commits_grown log more h =
     filter_map-append (commit_in (log ++ more)) log more
-      ∙ ap (λ es. es ++ filter_map (commit_in (log ++ more)) more)
-          (filter_map_same (commit_in (log ++ more)) (commit_in log) log
-            (All-weaker (IsBacked log) (λ r. commit_in (log ++ more) r ≡ commit_in log r) (commit_in_grown log more) log h))
+    ∙ ap (λ es. es ++ filter_map (commit_in (log ++ more)) more)
+    (filter_map_same (commit_in (log ++ more)) (commit_in log) log
+    (All-weaker (IsBacked log) (λ r. commit_in (log ++ more) r ≡ commit_in log r) (commit_in_grown log more) log h))
 
 pub commits_prepare : (log : List Record) (p : Transaction) → All (IsBacked log) log → commits (log ++ Prepare p ∷ []) ≡ commits log
 commits_prepare log p h = commits_grown log (Prepare p ∷ []) h ∙ append-nil (commits log)
@@ -65,7 +64,7 @@ pub current_commit : (log : List Record) (id : TxnId) (time : ℕ) (p : Transact
     → current (log ++ Commit id time ∷ []) key ≡ version_after key (current log key) (event_at time p)
 current_commit log id time p key h found =
     ap (fold (version_after key) Initial) (commits_commit log id time p h found)
-      ∙ fold-append (version_after key) Initial (commits log) (event_at time p ∷ [])
+    ∙ fold-append (version_after key) Initial (commits log) (event_at time p ∷ [])
 
 -- a commit event of a log: its Commit and its Prepare stand there
 pub record IsEventOf (log : List Record) (e : CommitEvent) : Type 0 where
@@ -77,6 +76,7 @@ event_of log e h = by_record found.0 found.1 found.2
   where
     found : (r : Record) × Contains log r × (commit_in log r ≡ Some e)
     found = contains_from_filter_map (commit_in log) log e h
+
     by_prepare : (id : TxnId) (time : ℕ) (o : Option Transaction) → Contains log (Commit id time) → prepare_of log id ≡ o
         → option_map (event_at time) o ≡ Some e → IsEventOf log e
     by_prepare id time None there look gives = absurd (cc)
@@ -86,6 +86,7 @@ event_of log e h = by_record found.0 found.1 found.2
         let named : id ≡ p.id = sym (same_id_is p.id id passes.1) in
         let here : Contains log (Commit p.id time) = subst (λ x. Contains log (Commit x time)) named there in
         subst (IsEventOf log) event (record { committed = here; prepared = passes.0 })
+
     by_record : (r : Record) → Contains log r → commit_in log r ≡ Some e → IsEventOf log e
     by_record (Prepare p) there gives = absurd (cc)
     by_record (Commit id time) there gives = by_prepare id time (prepare_of log id) there refl gives

@@ -1,5 +1,4 @@
-use Rattle.std.proofs.Common.{◌≡◌, ◌∙◌, ap, refl, sym, subst, ℕ, Bool, true, false, cond, ◌||◌, List, get_or, ◌∷◌, All, Contains, length, ◌<◌}
-use Rattle.std.specs.List.{list_any}
+use Rattle.std.proofs.Common.{◌≡◌, ◌∙◌, refl, sym, ℕ, Bool, true, false, ◌||◌, List, get_or, Contains}
 use Rattle.std.proofs.lemmas.List.Elements.{Contains-get_or}
 use Rattle.std.proofs.lemmas.Bool.{or_left, or_right, both_ways, false_from_ne_true}
 use Rattle.helios_model.specs.declared.ids.Version.{Version}
@@ -28,19 +27,19 @@ overwrites_touched p q key touched writes =
     let found = some_of (λ (w : WriteItem). same_key w.key key) q.writes writes in
     let same : same_key key found.0.key ≡ true = same_key_back key found.0.key ∙ found.2 in
     or_right (overwrites p q) (overwrites q p)
-      (any_from (λ w. reads_key p w.key || writes_key p w.key) q.writes found.0 found.1 (touched found.0.key same))
+    (any_from (λ w. reads_key p w.key || writes_key p w.key) q.writes found.0 found.1 (touched found.0.key same))
 
 read_unwritten : (p q : Transaction) (r : ReadItem) → conflict p q ≡ false → Contains p.reads r → writes_key q r.key ≡ false
 read_unwritten p q r apart there =
     false_from_ne_true (writes_key q r.key) (λ writes. both_ways (conflict p q) apart
-      (overwrites_touched p q r.key
-        (λ other same. or_left (reads_key p other) (writes_key p other) (any_from (λ x. same_key x.key other) p.reads r there same)) writes))
+    (overwrites_touched p q r.key
+    (λ other same. or_left (reads_key p other) (writes_key p other) (any_from (λ x. same_key x.key other) p.reads r there same)) writes))
 
 write_unwritten : (p q : Transaction) (w : WriteItem) → conflict p q ≡ false → Contains p.writes w → writes_key q w.key ≡ false
 write_unwritten p q w apart there =
     false_from_ne_true (writes_key q w.key) (λ writes. both_ways (conflict p q) apart
-      (overwrites_touched p q w.key
-        (λ other same. or_right (reads_key p other) (writes_key p other) (any_from (λ x. same_key x.key other) p.writes w there same)) writes))
+    (overwrites_touched p q w.key
+    (λ other same. or_right (reads_key p other) (writes_key p other) (any_from (λ x. same_key x.key other) p.writes w there same)) writes))
 
 unwritten_stays : (key : List ℕ) (version : Version) (q : Transaction) (time : ℕ) → writes_key q key ≡ false
     → version ≡ version_after key version (event_at time q)
@@ -50,15 +49,15 @@ unwritten_stays key version q time unwritten = rw unwritten refl
 pub follows_after : (versions : List ℕ → Version) (p q : Transaction) (time : ℕ) → conflict p q ≡ false → Follows versions p
     → Follows (λ key. version_after key (versions key) (event_at time q)) p
 follows_after versions p q time apart h = record {
-    reads = λ k d low. h.reads k d low
+  reads = λ k d low. h.reads k d low
       ∙ unwritten_stays (get_or p.reads k d).key (versions (get_or p.reads k d).key) q time (read_unwritten p q (get_or p.reads k d) apart (Contains-get_or p.reads k d low));
-    writes = λ k d low. h.writes k d low
+  writes = λ k d low. h.writes k d low
       ∙ unwritten_stays (get_or p.writes k d).key (versions (get_or p.writes k d).key) q time (write_unwritten p q (get_or p.writes k d) apart (Contains-get_or p.writes k d low));
-  }
+}
 
 -- a map with the same versions is followed as well
 pub follows_same : (versions others : List ℕ → Version) (p : Transaction) → ((key : List ℕ) → others key ≡ versions key) → Follows versions p → Follows others p
 follows_same versions others p same h = record {
-    reads = λ k d low. h.reads k d low ∙ sym (same (get_or p.reads k d).key);
-    writes = λ k d low. h.writes k d low ∙ sym (same (get_or p.writes k d).key);
-  }
+  reads = λ k d low. h.reads k d low ∙ sym (same (get_or p.reads k d).key);
+  writes = λ k d low. h.writes k d low ∙ sym (same (get_or p.writes k d).key);
+}

@@ -1,6 +1,6 @@
-use Rattle.std.proofs.Common.{◌≡◌, ◌∙◌, ap, refl, sym, subst, ℕ, suc, ◌+◌, ◌<◌, Bool, true, false, ◌⊎◌, inl, inr, Option, Some, None, is_some, List, [], ◌∷◌, ◌++◌, append_assoc, length, get_or, take, drop, All, AllPairs, Contains, arith}
+use Rattle.std.proofs.Common.{◌≡◌, ◌∙◌, ap, refl, sym, subst, ℕ, ◌+◌, ◌<◌, true, false, ◌⊎◌, inl, inr, Option, Some, None, is_some, List, [], ◌∷◌, ◌++◌, append_assoc, length, get_or, take, drop, All, AllPairs, Contains, arith}
 use Rattle.std.proofs.lemmas.List.{take-append-drop, drop_more, get_or-take, get_or_at, length-take-le, get_or_append_left, get_or_default, length-append}
-use Rattle.std.proofs.lemmas.List.Elements.{All-contains, Contains-get_or, Contains-append_left, Contains-append_right, Contains-append_cases}
+use Rattle.std.proofs.lemmas.List.Elements.{All-contains, Contains-append_cases}
 use Rattle.std.proofs.lemmas.Bool.{both_ways, cases_Bool, false_from_ne_true, true_from_ne_false}
 use Rattle.helios_model.specs.declared.ids.TxnId.{TxnId}
 use Rattle.helios_model.specs.declared.record.Record.{Record}
@@ -9,16 +9,16 @@ use Rattle.helios_model.specs.Ids.{same_id}
 use Rattle.helios_model.specs.Transaction.{Transaction}
 use Rattle.helios_model.specs.Conflict.{conflict}
 use Rattle.helios_model.specs.Setting.{Setting, count_of}
-use Rattle.helios_model.specs.Log.{origin, own_time, id_of, ends, finished, prepares, prepare_of, unfinished, current}
+use Rattle.helios_model.specs.Log.{origin, own_time, id_of, ends, finished, prepares, prepare_of, unfinished}
 use Rattle.helios_model.specs.Node.{Node, empty_node}
-use Rattle.helios_model.specs.World.{World, Event, MayRun, first_world, node_of, run}
-use Rattle.helios_model.specs.Laws.Shapes.{EachBehind, Rises}
-use Rattle.helios_model.specs.Laws.Order.{IsNew, IsAsked, IsPending, IsClearBehind, IsLawful, OrderLaws}
-use Rattle.helios_model.specs.Laws.Nodes.{OwnTimesRise, NodeLaws}
-use Rattle.helios_model.specs.Laws.Logs.{EachTimeRises, LogIsOwn, EachLogIsOwn, IdsAreGivenOnce, EachIdIsGivenOnce, IsEnding, EndsPending, EndingsFollow, EachEndingFollows, aborts, aborted, EndsFirst, ConflictsAreOrdered, EachConflictIsOrdered, EarlierEndsFirst, EachEarlierEndsFirst, FollowsBefore, VersionsWereCurrent, EachVersionWasCurrent, CommitsWaited, EachCommitWaited}
-use Rattle.helios_model.proofs.LawProofs.Lists.{contains_here, contains_later, contains_cases, all_from, any_from, some_of, find_passes, pairs_cases}
+use Rattle.helios_model.specs.World.{World, first_world, node_of, run}
+use Rattle.helios_model.specs.Laws.Shapes.{Rises}
+use Rattle.helios_model.specs.Laws.Order.{IsAsked, IsPending, IsClearBehind, IsLawful, OrderLaws}
+use Rattle.helios_model.specs.Laws.Nodes.{NodeLaws}
+use Rattle.helios_model.specs.Laws.Logs.{EachTimeRises, EachLogIsOwn, IdsAreGivenOnce, EachIdIsGivenOnce, EndsPending, EndingsFollow, EachEndingFollows, aborts, aborted, EndsFirst, EachConflictIsOrdered, EachEarlierEndsFirst, FollowsBefore, VersionsWereCurrent, EachVersionWasCurrent, EachCommitWaited}
+use Rattle.helios_model.proofs.LawProofs.Lists.{contains_cases, any_from, some_of, find_passes, pairs_cases}
 use Rattle.helios_model.proofs.LawProofs.Ids.{same_id_is, same_id_of}
-use Rattle.helios_model.proofs.LawProofs.Push.{prepares_append, prepare_stands, unfinished_has}
+use Rattle.helios_model.proofs.LawProofs.Push.{prepare_stands, unfinished_has}
 use Rattle.helios_model.proofs.LawProofs.Fits.{conflict_back}
 use Rattle.helios_model.proofs.LawProofs.OrderSteps.{cut_prepared}
 use Rattle.helios_model.proofs.LawProofs.Requests.{IsGone}
@@ -43,7 +43,7 @@ pub each_log_is_own : EachLogIsOwn
 each_log_is_own plan events may k low =
     let site : (node_of plan (run plan (first_world plan) events) k).site ≡ k = (node_gone plan (run plan (first_world plan) events) k low).same_site in
     subst (λ s. All (λ r. origin r ≡ s) (node_of plan (run plan (first_world plan) events) k).log) (sym site)
-      (log_own plan (run plan (first_world plan) events) k low)
+    (log_own plan (run plan (first_world plan) events) k low)
 
 -- ids
 
@@ -62,12 +62,12 @@ one_in_log log p q ids at_p at_q same = by_case (pairs_cases (λ a b. same_id a.
 
 pub ids_given_once : (plan : Setting) (w : World) → IdsAreGivenOnce plan w
 ids_given_once plan w = record {
-    in_log = λ k low. (node_laws plan w k low).pool.ids;
-    across = λ i j low_i low_j p q at_p at_q same.
+  in_log = λ k low. (node_laws plan w k low).pool.ids;
+  across = λ i j low_i low_j p q at_p at_q same.
       let one : j ≡ i = sym (prepare_own plan w j q low_j at_q) ∙ ap (λ x. x.site) (sym same) ∙ prepare_own plan w i p low_i at_p in
       one_in_log (node_of plan w i).log p q (node_laws plan w i low_i).pool.ids at_p
-        (subst (λ k. Contains (prepares (node_of plan w k).log) q) one at_q) same;
-  }
+      (subst (λ k. Contains (prepares (node_of plan w k).log) q) one at_q) same;
+}
 
 pub each_id_is_given_once : EachIdIsGivenOnce
 each_id_is_given_once plan events may = ids_given_once plan (run plan (first_world plan) events)
@@ -102,10 +102,13 @@ pairs_from_cuts {X = X} R xs h i j d less low =
   where
     cut : xs ≡ take j xs ++ get_or xs j d ∷ drop (j + 1) xs
     cut = sym (take-append-drop j xs) ∙ ap (λ rest. take j xs ++ rest) (drop_more xs j d low)
+
     long : length (take j xs) ≡ j
     long = length-take-le j xs (omega arith)
+
     short : i < length (take j xs)
     short = omega (arith, long)
+
     there : Contains (take j xs) (get_or xs i d)
     there = (i, short, get_or-take j xs i (get_or xs i d) less ∙ get_or_default xs i (get_or xs i d) d (omega arith))
 
@@ -121,31 +124,33 @@ ending_later site log before r after time rises cut timed prepared = by_find (pr
         let passes = find_passes (λ q. same_id q.id (id_of r)) (prepares before) p look in
         let named : p.id ≡ id_of r = same_id_is p.id (id_of r) passes.1 in
         let less : p.id.time < own_time r =
-          pairs_cut (λ a b. origin a ≡ origin b → own_time a < own_time b) log before r after (Prepare p) rises cut (prepare_stands before p passes.0) (ap (λ x. x.site) named) in
+        pairs_cut (λ a b. origin a ≡ origin b → own_time a < own_time b) log before r after (Prepare p) rises cut (prepare_stands before p passes.0) (ap (λ x. x.site) named) in
         let at_id : (id_of r).time < own_time r = subst (λ x. x.time < own_time r) named less in
         omega arith
 
 endings_follow : (plan : Setting) (n : Node) → NodeLaws plan n → EndingsFollow plan n
 endings_follow plan n h = record {
-    behind = λ before r after cut. by_record before r after cut (h.order.each before r after cut);
-    once = pairs_from_cuts (λ a b. (id : TxnId) → ends id a ≡ true → ends id b ≡ false) n.log
+  behind = λ before r after cut. by_record before r after cut (h.order.each before r after cut);
+  once = pairs_from_cuts (λ a b. (id : TxnId) → ends id a ≡ true → ends id b ≡ false) n.log
       (λ before b after a cut there id ends_a. false_from_ne_true (ends id b) (λ ends_b.
-        once_only before b after id (any_from (ends id) before a there ends_a) ends_b (h.order.each before b after cut)));
-  }
+      once_only before b after id (any_from (ends id) before a there ends_a) ends_b (h.order.each before b after cut)));
+}
   where
     by_record : (before : List Record) (r : Record) (after : List Record) → n.log ≡ before ++ r ∷ after → IsLawful n.site before r → EndsPending before r
     by_record before (Prepare p) after cut lawful = tt
     by_record before (Commit id time) after cut lawful = record {
-        pending = lawful.0;
-        later = ending_later n.site n.log before (Commit id time) after time h.times.rise cut refl lawful.0.prepared;
-      }
+      pending = lawful.0;
+      later = ending_later n.site n.log before (Commit id time) after time h.times.rise cut refl lawful.0.prepared;
+    }
     by_record before (Abort id time cause) after cut lawful = record {
-        pending = lawful;
-        later = ending_later n.site n.log before (Abort id time cause) after time h.times.rise cut refl lawful.prepared;
-      }
+      pending = lawful;
+      later = ending_later n.site n.log before (Abort id time cause) after time h.times.rise cut refl lawful.prepared;
+    }
+
     by_pending : (before : List Record) (id other : TxnId) → finished before id ≡ true → same_id other id ≡ true → IsPending before other → ⊥
     by_pending before id other done same pending =
         both_ways (finished before other) pending.unended (ap (finished before) (same_id_is other id same) ∙ done)
+
     once_only : (before : List Record) (b : Record) (after : List Record) (id : TxnId) → finished before id ≡ true → ends id b ≡ true → IsLawful n.site before b → ⊥
     once_only before (Prepare p) after id done ends_b lawful = cc
     once_only before (Commit other time) after id done ends_b lawful = by_pending before id other done ends_b lawful.0
@@ -160,10 +165,10 @@ each_ending_follows plan events may k low =
 own_later_ends : (site : ℕ) (log : List Record) (p q : Transaction) → OrderLaws site log → q.id.site ≡ site → EndsFirst log p q
 own_later_ends site log p q h own before after cut there conflicts =
     true_from_ne_false (finished before p.id) (λ open_then.
-      let lawful : IsLawful site before (Prepare q) = h.each before (Prepare q) after cut in
-      let asked : IsAsked before q = lawful.1 own in
-      let free : conflict q p ≡ false = All-contains (λ x. conflict q x ≡ false) (unfinished before) p asked.alone (unfinished_has before p there open_then) in
-      both_ways (conflict p q) (conflict_back p q ∙ free) conflicts)
+    let lawful : IsLawful site before (Prepare q) = h.each before (Prepare q) after cut in
+    let asked : IsAsked before q = lawful.1 own in
+    let free : conflict q p ≡ false = All-contains (λ x. conflict q x ≡ false) (unfinished before) p asked.alone (unfinished_has before p there open_then) in
+    both_ways (conflict p q) (conflict_back p q ∙ free) conflicts)
 
 -- a transaction that is clear behind does not conflict with one whose Prepare is behind its own
 clear_apart : (records before : List Record) (p q : Transaction) (after : List Record) → IsClearBehind records p → records ≡ before ++ Prepare q ∷ after
@@ -171,9 +176,9 @@ clear_apart : (records before : List Record) (p q : Transaction) (after : List R
 clear_apart records before p q after clear cut there =
     let at_p = contains_cut before (Prepare p) (prepare_stands before p there) in
     let whole : records ≡ at_p.0 ++ Prepare p ∷ (at_p.1 ++ Prepare q ∷ after) =
-      cut ∙ ap (λ xs. xs ++ Prepare q ∷ after) at_p.2 ∙ append_assoc at_p.0 (Prepare p ∷ at_p.1) (Prepare q ∷ after) in
+    cut ∙ ap (λ xs. xs ++ Prepare q ∷ after) at_p.2 ∙ append_assoc at_p.0 (Prepare p ∷ at_p.1) (Prepare q ∷ after) in
     All-contains (λ x. conflict p x ≡ false) (prepares (at_p.1 ++ Prepare q ∷ after)) q (clear at_p.0 (at_p.1 ++ Prepare q ∷ after) whole)
-      (cut_prepared (at_p.1 ++ Prepare q ∷ after) at_p.1 q after refl)
+    (cut_prepared (at_p.1 ++ Prepare q ∷ after) at_p.1 q after refl)
 
 own_earlier_ends : (site : ℕ) (log : List Record) (p q : Transaction) → OrderLaws site log → p.id.site ≡ site → aborted log p.id ≡ false → EndsFirst log p q
 own_earlier_ends site log p q h own kept before after cut there conflicts = by_end (cases_Bool (finished log p.id))
@@ -182,20 +187,24 @@ own_earlier_ends site log p q h own kept before after cut there conflicts = by_e
     commits_late id time named late =
         let at_end = contains_cut after (Commit id time) late in
         let whole : log ≡ (before ++ Prepare q ∷ at_end.0) ++ Commit id time ∷ at_end.1 =
-          cut ∙ ap (λ xs. before ++ Prepare q ∷ xs) at_end.2 ∙ sym (append_assoc before (Prepare q ∷ at_end.0) (Commit id time ∷ at_end.1)) in
+        cut ∙ ap (λ xs. before ++ Prepare q ∷ xs) at_end.2 ∙ sym (append_assoc before (Prepare q ∷ at_end.0) (Commit id time ∷ at_end.1)) in
         let lawful : IsLawful site (before ++ Prepare q ∷ at_end.0) (Commit id time) = h.each (before ++ Prepare q ∷ at_end.0) (Commit id time) at_end.1 whole in
         clear_apart (before ++ Prepare q ∷ at_end.0) before p q at_end.0 (lawful.1 (ap (λ x. x.site) (sym named) ∙ own) p named) refl there
+
     by_record : (r : Record) → ends p.id r ≡ true → Contains log r → Contains after r → conflict p q ≡ false
     by_record (Prepare x) ends_it in_log late = absurd (cc)
     by_record (Commit id time) ends_it in_log late = commits_late id time (sym (same_id_is id p.id ends_it)) late
     by_record (Abort id time cause) ends_it in_log late =
         absurd (both_ways (aborted log p.id) kept (any_from (aborts p.id) log (Abort id time cause) in_log ends_it))
+
     by_late : (r : Record) → ends p.id r ≡ true → Contains log r → (Prepare q ≡ r) ⊎ Contains after r → finished before p.id ≡ true
     by_late r ends_it in_log (inl here) = let no_end : ends p.id r ≡ false = ap (ends p.id) (sym here) in absurd (both_ways (ends p.id r) no_end ends_it)
     by_late r ends_it in_log (inr late) = absurd (both_ways (conflict p q) (by_record r ends_it in_log late) conflicts)
+
     by_place : (r : Record) → ends p.id r ≡ true → Contains log r → Contains before r ⊎ Contains (Prepare q ∷ after) r → finished before p.id ≡ true
     by_place r ends_it in_log (inl early) = any_from (ends p.id) before r early ends_it
     by_place r ends_it in_log (inr late) = by_late r ends_it in_log (contains_cases (Prepare q) after r late)
+
     by_end : (finished log p.id ≡ true) ⊎ (finished log p.id ≡ false) → finished before p.id ≡ true
     by_end (inl done) =
         let found = some_of (ends p.id) log done in
@@ -215,8 +224,8 @@ pub each_earlier_ends_first : EachEarlierEndsFirst
 each_earlier_ends_first plan events may k low p q before after cut there conflicts =
     let n : Node = node_of plan (run plan (first_world plan) events) k in
     let own : q.id.site ≡ n.site =
-      All-contains (λ r. origin r ≡ n.site) n.log (Prepare q) (each_log_is_own plan events may k low)
-        (prepare_stands n.log q (cut_prepared n.log before q after cut)) in
+    All-contains (λ r. origin r ≡ n.site) n.log (Prepare q) (each_log_is_own plan events may k low)
+    (prepare_stands n.log q (cut_prepared n.log before q after cut)) in
     own_later_ends n.site n.log p q (node_laws plan (run plan (first_world plan) events) k low).order own before after cut there conflicts
 
 versions_current : (plan : Setting) (n : Node) → NodeLaws plan n → VersionsWereCurrent plan n

@@ -1,4 +1,4 @@
-use Rattle.std.proofs.Common.{◌≡◌, ◌≢◌, ◌∙◌, ap, refl, sym, subst, ℕ, suc, ◌+◌, ◌*◌, ◌<◌, ◌≤◌, Bool, true, false, ◌⊎◌, inl, inr, Option, Some, None, is_some, List, [], ◌∷◌, ◌++◌, length, get_or, find, All, AllPairs, Contains, arith}
+use Rattle.std.proofs.Common.{◌≡◌, ◌≢◌, ◌∙◌, ap, refl, sym, subst, ℕ, ◌+◌, ◌*◌, ◌<◌, ◌≤◌, false, ◌⊎◌, inl, inr, Some, is_some, length, get_or, All, Contains, arith}
 use Rattle.std.proofs.lemmas.List.{get_or-set_same, get_or-set_other}
 use Rattle.std.proofs.lemmas.List.Elements.{All-push, All-weaker, All-contains}
 use Rattle.std.proofs.lemmas.List.Quantifiers.{all_pairs_push}
@@ -15,7 +15,6 @@ use Rattle.helios_model.specs.Log.{origin, own_time, finished, prepares, prepare
 use Rattle.helios_model.specs.Node.{Node, known, clock, with_clock, with_record}
 use Rattle.helios_model.specs.Settle.{commit_one}
 use Rattle.helios_model.specs.Request.{entered}
-use Rattle.helios_model.specs.Laws.Placed.{IsPlaced}
 use Rattle.helios_model.specs.Laws.Order.{IsNew, IsAsked}
 use Rattle.helios_model.specs.Laws.Nodes.{OwnTimesRise, IsWaited, NodeLaws}
 use Rattle.helios_model.proofs.LawProofs.Lists.{all_from}
@@ -46,17 +45,19 @@ known_other plan n r time k apart =
 pub times_own : (plan : Setting) (n : Node) (r : Record) (time : ℕ) → IsWithin plan n → OwnTimesRise plan n → origin r ≡ n.site → own_time r ≡ time
     → clock plan n < time → OwnTimesRise plan (with_clock plan (with_record n r) time)
 times_own plan n r time inside h own timed above = record {
-    positive = All-push (λ x. 0 < own_time x) n.log r h.positive (omega arith);
-    rise = all_pairs_push (λ a b. origin a ≡ origin b → own_time a < own_time b) n.log r h.rise before;
-    within = All-push (λ x. own_time x ≤ known plan (with_clock plan (with_record n r) time) n.site (origin x)) n.log r still new;
-  }
+  positive = All-push (λ x. 0 < own_time x) n.log r h.positive (omega arith);
+  rise = all_pairs_push (λ a b. origin a ≡ origin b → own_time a < own_time b) n.log r h.rise before;
+  within = All-push (λ x. own_time x ≤ known plan (with_clock plan (with_record n r) time) n.site (origin x)) n.log r still new;
+}
   where
     own_below : (x : Record) → own_time x ≤ known plan n n.site (origin x) → origin x ≡ n.site → own_time x ≤ clock plan n
     own_below x low same = subst (λ k. own_time x ≤ known plan n n.site k) same low
+
     before : (k : ℕ) (d : Record) → k < length n.log → origin (get_or n.log k d) ≡ origin r → own_time (get_or n.log k d) < own_time r
     before k d low same =
         let below : own_time (get_or n.log k d) ≤ clock plan n = own_below (get_or n.log k d) (h.within k d low) (same ∙ own) in
         omega arith
+
     by_origin : (x : Record) → own_time x ≤ known plan n n.site (origin x) → (origin x ≡ n.site) ⊎ (origin x ≡ n.site → ⊥)
         → own_time x ≤ known plan (with_clock plan (with_record n r) time) n.site (origin x)
     by_origin x low (inl same) =
@@ -64,8 +65,10 @@ times_own plan n r time inside h own timed above = record {
         let risen : own_time x ≤ time = omega arith in
         subst (λ t. own_time x ≤ t) (sym (ap (known plan (with_clock plan (with_record n r) time) n.site) same ∙ known_own plan n r time inside)) risen
     by_origin x low (inr apart) = subst (λ t. own_time x ≤ t) (sym (known_other plan n r time (origin x) apart)) low
+
     still : All (λ x. own_time x ≤ known plan (with_clock plan (with_record n r) time) n.site (origin x)) n.log
     still = λ k d low. by_origin (get_or n.log k d) (h.within k d low) (cases_eq (origin (get_or n.log k d)) n.site)
+
     new : own_time r ≤ known plan (with_clock plan (with_record n r) time) n.site (origin r)
     new =
         let here : own_time r ≤ time = omega arith in
@@ -79,7 +82,7 @@ new_id plan n id h own above = all_from (λ p. same_id p.id id ≡ false) (prepa
     differs p there = false_from_ne_true (same_id p.id id) (λ same.
         let one : p.id ≡ id = same_id_is p.id id same in
         let low : p.id.time ≤ known plan n n.site p.id.site =
-          All-contains (λ r. own_time r ≤ known plan n n.site (origin r)) n.log (Prepare p) h.within (prepare_stands n.log p there) in
+        All-contains (λ r. own_time r ≤ known plan n n.site (origin r)) n.log (Prepare p) h.within (prepare_stands n.log p there) in
         let below : id.time ≤ known plan n n.site id.site = subst (λ x. x.time ≤ known plan n n.site x.site) one low in
         let clocked : id.time ≤ clock plan n = subst (λ k. id.time ≤ known plan n n.site k) own below in
         omega arith)
@@ -100,7 +103,7 @@ pub laws_entered : (plan : Setting) (n : Node) (p : Transaction) → IsWithin pl
 laws_entered plan n p inside h own above asked =
     let new : IsNew n.log p.id = new_id plan n p.id h.times own above in
     let clear : All (λ q. q.id.site ≡ n.site → conflict q p ≡ false) (unfinished n.log) =
-      All-weaker (λ q. conflict p q ≡ false) (λ q. q.id.site ≡ n.site → conflict q p ≡ false) (λ q free its. conflict_back q p ∙ free) (unfinished n.log) asked.alone in
+    All-weaker (λ q. conflict p q ≡ false) (λ q. q.id.site ≡ n.site → conflict q p ≡ false) (λ q free its. conflict_back q p ∙ free) (unfinished n.log) asked.alone in
     record {
       times = times_own plan n (Prepare p) p.id.time inside h.times own refl above;
       pool = pool_prepare n.site n.log p h.pool new clear (λ its. asked);
@@ -126,10 +129,10 @@ goes_on_waiting plan n r time p w = λ j low apart.
 pub laws_committed : (plan : Setting) (n : Node) (p : Transaction) → IsWithin plan n → NodeLaws plan n → IsOpen n p → HasWaited plan n p
     → NodeLaws plan (commit_one plan n p.id)
 laws_committed plan n p inside h o w = record {
-    waited = All-push (IsWaited plan (commit_one plan n p.id)) n.log (Commit p.id (clock plan n + 1))
+  waited = All-push (IsWaited plan (commit_one plan n p.id)) n.log (Commit p.id (clock plan n + 1))
       (still_waited plan n (Commit p.id (clock plan n + 1)) (clock plan n + 1) h.waited)
       (λ own. goes_on_waiting plan n (Commit p.id (clock plan n + 1)) (clock plan n + 1) p w);
-    times = times_own plan n (Commit p.id (clock plan n + 1)) (clock plan n + 1) inside h.times o.own refl (omega arith);
-    pool = pool_commit n.site n.log p.id (clock plan n + 1) p h.pool o.found o.unended;
-    order = order_commit n.site n.log p.id (clock plan n + 1) h.order (record { prepared = ap (λ x. is_some x) o.found; unended = o.unended });
-  }
+  times = times_own plan n (Commit p.id (clock plan n + 1)) (clock plan n + 1) inside h.times o.own refl (omega arith);
+  pool = pool_commit n.site n.log p.id (clock plan n + 1) p h.pool o.found o.unended;
+  order = order_commit n.site n.log p.id (clock plan n + 1) h.order (record { prepared = ap (λ x. is_some x) o.found; unended = o.unended });
+}

@@ -1,5 +1,5 @@
-use Rattle.std.proofs.Common.{◌≡◌, ◌∙◌, ap, refl, sym, subst, ℕ, Bool, true, false, not, ◌&&◌, ◌||◌, Option, Some, None, is_some, List, [], ◌∷◌, ◌++◌, filter, filter_map, find, All, Contains, arith}
-use Rattle.std.specs.List.{list_any, cons_option}
+use Rattle.std.proofs.Common.{◌≡◌, ◌∙◌, ap, refl, sym, subst, true, false, not, ◌&&◌, ◌||◌, Option, Some, None, is_some, List, [], ◌∷◌, ◌++◌, filter, find, Contains}
+use Rattle.std.specs.List.{cons_option}
 use Rattle.std.specs.Option.{option_or}
 use Rattle.std.proofs.lemmas.List.{append-nil}
 use Rattle.std.proofs.lemmas.List.Elements.{filter_map-append, filter-append, filter_agree}
@@ -41,17 +41,17 @@ found_first (Some x) other h = refl
 pub prepare_of_grows : (log more : List Record) (id : TxnId) → is_some (prepare_of log id) ≡ true → prepare_of (log ++ more) id ≡ prepare_of log id
 prepare_of_grows log more id h =
     ap (find (λ p. same_id p.id id)) (prepares_append log more)
-      ∙ find-append (λ p. same_id p.id id) (prepares log) (prepares more)
-      ∙ found_first (prepare_of log id) (find (λ p. same_id p.id id) (prepares more)) h
+    ∙ find-append (λ p. same_id p.id id) (prepares log) (prepares more)
+    ∙ found_first (prepare_of log id) (find (λ p. same_id p.id id) (prepares more)) h
 
 -- a record that is no Prepare ends what it ends
 pub unfinished_end : (log : List Record) (r : Record) → prepare_in r ≡ None
     → unfinished (log ++ r ∷ []) ≡ filter (λ p. not (ends p.id r)) (unfinished log)
 unfinished_end log r e =
     ap (filter (λ p. not (finished (log ++ r ∷ []) p.id))) (prepares_end log r e)
-      ∙ filter_agree (λ p. not (finished (log ++ r ∷ []) p.id)) (λ p. not (finished log p.id) && not (ends p.id r))
-          (λ p. ap not (finished_push log r p.id) ∙ not_or (finished log p.id) (ends p.id r)) (prepares log)
-      ∙ sym (filter_twice (λ p. not (ends p.id r)) (λ p. not (finished log p.id)) (prepares log))
+    ∙ filter_agree (λ p. not (finished (log ++ r ∷ []) p.id)) (λ p. not (finished log p.id) && not (ends p.id r))
+    (λ p. ap not (finished_push log r p.id) ∙ not_or (finished log p.id) (ends p.id r)) (prepares log)
+    ∙ sym (filter_twice (λ p. not (ends p.id r)) (λ p. not (finished log p.id)) (prepares log))
 
 -- a Prepare with no Commit or Abort is unfinished
 pub unfinished_prepare : (log : List Record) (p : Transaction) → finished log p.id ≡ false
@@ -59,10 +59,10 @@ pub unfinished_prepare : (log : List Record) (p : Transaction) → finished log 
 unfinished_prepare log p fresh =
     let kept : filter (λ q. not (finished log q.id)) (p ∷ []) ≡ p ∷ [] = rw fresh refl in
     ap (filter (λ q. not (finished (log ++ Prepare p ∷ []) q.id))) (prepares_prepare log p)
-      ∙ filter_agree (λ q. not (finished (log ++ Prepare p ∷ []) q.id)) (λ q. not (finished log q.id))
-          (λ q. ap not (finished_push log (Prepare p) q.id ∙ or_false (finished log q.id))) (prepares log ++ p ∷ [])
-      ∙ filter-append (λ q. not (finished log q.id)) (prepares log) (p ∷ [])
-      ∙ ap (λ ps. unfinished log ++ ps) kept
+    ∙ filter_agree (λ q. not (finished (log ++ Prepare p ∷ []) q.id)) (λ q. not (finished log q.id))
+    (λ q. ap not (finished_push log (Prepare p) q.id ∙ or_false (finished log q.id))) (prepares log ++ p ∷ [])
+    ∙ filter-append (λ q. not (finished log q.id)) (prepares log) (p ∷ [])
+    ∙ ap (λ ps. unfinished log ++ ps) kept
 
 pub unfinished_is : (log : List Record) (p : Transaction) → Contains (unfinished log) p → Contains (prepares log) p × (finished log p.id ≡ false)
 unfinished_is log p h =
@@ -78,6 +78,7 @@ prepare_stands log p h = by_record found.0 found.1 found.2
   where
     found : (r : Record) × Contains log r × (prepare_in r ≡ Some p)
     found = contains_from_filter_map prepare_in log p h
+
     by_record : (r : Record) → Contains log r → prepare_in r ≡ Some p → Contains log (Prepare p)
     by_record (Prepare q) there e = let same : q ≡ p = cc in subst (λ x. Contains log (Prepare x)) same there
     by_record (Commit id time) there e = absurd (cc)

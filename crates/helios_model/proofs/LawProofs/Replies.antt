@@ -35,11 +35,11 @@ taken_grown site before log more ask id h = record { own = h.own; stands = Conta
 committed_grown : (site : ℕ) (before log more : List Record) (ask : Asking) (id : TxnId) → All (IsBacked log) log → IsCommittedIn site before log ask id
     → IsCommittedIn site before (log ++ more) ask id
 committed_grown site before log more ask id backed h = record {
-    taken = taken_grown site before log more ask id h.taken;
-    event = h.event;
-    stands = subst (λ es. Contains es h.event) (sym (commits_grown log more backed)) (Contains-append_left (commits log) _ h.event h.stands);
-    asked_for = h.asked_for;
-  }
+  taken = taken_grown site before log more ask id h.taken;
+  event = h.event;
+  stands = subst (λ es. Contains es h.event) (sym (commits_grown log more backed)) (Contains-append_left (commits log) _ h.event h.stands);
+  asked_for = h.asked_for;
+}
 
 says_grown : (site : ℕ) (before log more : List Record) (ask : Asking) (reply : Reply) → All (IsBacked log) log → Says site before log ask reply
     → Says site before (log ++ more) ask reply
@@ -56,13 +56,13 @@ says_to_grown site before log more (Request ask) reply backed h = says_grown sit
 
 pub told_grown : (log more : List Record) (t : Told) → All (IsBacked log) log → IsToldIn log t → IsToldIn (log ++ more) t
 told_grown log more t backed h = record {
-    before = h.before;
-    later = h.later ++ more;
-    cut = ap (λ xs. xs ++ more) h.cut ∙ append_assoc h.before h.later more;
-    size = h.size;
-    backed = h.backed;
-    says = says_to_grown t.site h.before log more t.input t.reply backed h.says;
-  }
+  before = h.before;
+  later = h.later ++ more;
+  cut = ap (λ xs. xs ++ more) h.cut ∙ append_assoc h.before h.later more;
+  size = h.size;
+  backed = h.backed;
+  says = says_to_grown t.site h.before log more t.input t.reply backed h.says;
+}
 
 -- the same for the log of a node that went on
 pub told_gone : (plan : Setting) (n m : Node) (t : Told) → IsKept plan n → IsGone plan n m → IsToldIn n.log t → IsToldIn m.log t
@@ -88,10 +88,10 @@ replies_told plan n (e ∷ es) h =
       says = s.says;
     } in
     All-cons (IsToldBy plan n (after_entries plan m es).log) (record { site = n.site; input = e.input; reply = (step plan n e).reply; log_length = length n.log }) (replies plan m es)
-      (record {
-        at_site = refl;
-        told = told_gone plan m (after_entries plan m es) (record { site = n.site; input = e.input; reply = (step plan n e).reply; log_length = length n.log })
+    (record {
+      at_site = refl;
+      told = told_gone plan m (after_entries plan m es) (record { site = n.site; input = e.input; reply = (step plan n e).reply; log_length = length n.log })
           s.gone.kept (entries_go plan m es s.gone.kept) here;
-      })
-      (All-weaker (IsToldBy plan m (after_entries plan m es).log) (IsToldBy plan n (after_entries plan m es).log)
-        (λ t later. record { at_site = later.at_site ∙ s.gone.same_site; told = later.told }) (replies plan m es) (replies_told plan m es s.gone.kept))
+    })
+    (All-weaker (IsToldBy plan m (after_entries plan m es).log) (IsToldBy plan n (after_entries plan m es).log)
+    (λ t later. record { at_site = later.at_site ∙ s.gone.same_site; told = later.told }) (replies plan m es) (replies_told plan m es s.gone.kept))

@@ -1,4 +1,4 @@
-use Rattle.std.proofs.Common.{◌≡◌, ◌≢◌, ◌∙◌, ap, refl, sym, subst, ℕ, ◌+◌, ◌<◌, Bool, true, false, not, cond, ◌||◌, ◌&&◌, ◌⊎◌, inl, inr, nat_eq, Option, Some, None, is_some, option_map, List, [], ◌∷◌, ◌++◌, append_assoc, map, find, All, AllPairs, Contains, arith}
+use Rattle.std.proofs.Common.{◌≡◌, ◌≢◌, ◌∙◌, ap, refl, sym, subst, ℕ, ◌<◌, Bool, true, false, not, ◌&&◌, ◌⊎◌, inl, inr, Option, Some, None, is_some, option_map, List, [], ◌∷◌, ◌++◌, append_assoc, All, AllPairs, Contains, arith}
 use Rattle.std.proofs.lemmas.List.{append-nil}
 use Rattle.std.proofs.lemmas.List.Elements.{All-nil, All-cons, All-append, All-map, All-weaker, All-contains, Contains-append_right}
 use Rattle.std.proofs.lemmas.List.Folds.{list_any-append}
@@ -6,7 +6,6 @@ use Rattle.std.proofs.lemmas.Option.{same_Some}
 use Rattle.std.proofs.lemmas.Bool.{both_ways, not-true, not-false, cond_both, or_cases}
 use Rattle.helios_model.specs.declared.ids.TxnId.{TxnId}
 use Rattle.helios_model.specs.declared.ids.Version.{Version}
-use Rattle.helios_model.specs.declared.ids.Version.TheVariants.{Initial, Of}
 use Rattle.helios_model.specs.declared.items.ReadItem.{ReadItem}
 use Rattle.helios_model.specs.declared.input.Input.{Input}
 use Rattle.helios_model.specs.declared.input.Input.TheVariants.{Request}
@@ -20,11 +19,11 @@ use Rattle.helios_model.specs.Ids.{same_id, same_version}
 use Rattle.helios_model.specs.Transaction.{Transaction}
 use Rattle.helios_model.specs.Asking.{Asking}
 use Rattle.helios_model.specs.Conflict.{conflict}
-use Rattle.helios_model.specs.Setting.{Setting, count_of}
+use Rattle.helios_model.specs.Setting.{Setting}
 use Rattle.helios_model.specs.Log.{origin, ends, finished, prepares, prepare_of, unfinished, event_at, commit_in, commits, current}
-use Rattle.helios_model.specs.Node.{Node, clock, next_time, with_record, is_spent}
+use Rattle.helios_model.specs.Node.{Node, clock, next_time, is_spent}
 use Rattle.helios_model.specs.Settle.{settle}
-use Rattle.helios_model.specs.Request.{Stepped, is_full, stale_read, write_at, asked, next_id, clash, entered, taken_reply, accept, by_clash, by_stale, by_room}
+use Rattle.helios_model.specs.Request.{Stepped, is_full, stale_read, write_at, asked, next_id, clash, entered, accept, by_clash, by_stale, by_room}
 use Rattle.helios_model.specs.Step.{step, by_clock, is_journaled, after_entry, after_entries}
 use Rattle.helios_model.specs.Serial.{Follows, IsSerial}
 use Rattle.helios_model.specs.NamedAbort.{IsConflict}
@@ -32,7 +31,7 @@ use Rattle.helios_model.specs.Laws.Pool.{IsBacked}
 use Rattle.helios_model.specs.Laws.Order.{IsAsked}
 use Rattle.helios_model.proofs.LawProofs.Placed.{placed_entered}
 use Rattle.helios_model.proofs.LawProofs.Lists.{or_false, some_of, find_passes, find_none, contains_filter_map}
-use Rattle.helios_model.proofs.LawProofs.Ids.{same_id_is, same_id_of, same_version_is, same_version_of}
+use Rattle.helios_model.proofs.LawProofs.Ids.{same_id_is, same_version_is, same_version_of}
 use Rattle.helios_model.proofs.LawProofs.Push.{finished_push, unfinished_is, prepare_stands}
 use Rattle.helios_model.proofs.LawProofs.Committed.{IsEventOf, event_of, commits_prepare}
 use Rattle.helios_model.proofs.LawProofs.PoolSteps.{fresh_unended}
@@ -53,13 +52,13 @@ goes_nowhere plan n h = record { more = []; grown = sym (append-nil n.log); own 
 
 pub goes_on : (plan : Setting) (n m l : Node) → IsGone plan n m → IsGone plan m l → IsGone plan n l
 goes_on plan n m l first second = record {
-    more = first.more ++ second.more;
-    grown = second.grown ∙ ap (λ log. log ++ second.more) first.grown ∙ append_assoc n.log first.more second.more;
-    own = All-append (λ r. origin r ≡ n.site) first.more second.more first.own
+  more = first.more ++ second.more;
+  grown = second.grown ∙ ap (λ log. log ++ second.more) first.grown ∙ append_assoc n.log first.more second.more;
+  own = All-append (λ r. origin r ≡ n.site) first.more second.more first.own
       (All-weaker (λ r. origin r ≡ m.site) (λ r. origin r ≡ n.site) (λ r its. its ∙ first.same_site) second.more second.own);
-    same_site = second.same_site ∙ first.same_site;
-    kept = second.kept;
-  }
+  same_site = second.same_site ∙ first.same_site;
+  kept = second.kept;
+}
 
 -- a commit event of this id among the records
 pub record IsCommitIn (records : List Record) (id : TxnId) : Type 0 where
@@ -106,10 +105,10 @@ event_of_commit log id time backed there = by_find (prepare_of log id) refl back
     by_find : (o : Option Transaction) → prepare_of log id ≡ o → is_some o ≡ true → IsCommitIn log id
     by_find None look none = absurd (cc)
     by_find (Some p) look some = record {
-        event = event_at time p;
-        stands = contains_filter_map (commit_in log) log (Commit id time) (event_at time p) there (ap (option_map (event_at time)) look);
-        named = same_id_is p.id id (find_passes (λ q. same_id q.id id) (prepares log) p look).1;
-      }
+      event = event_at time p;
+      stands = contains_filter_map (commit_in log) log (Commit id time) (event_at time p) there (ap (option_map (event_at time)) look);
+      named = same_id_is p.id id (find_passes (λ q. same_id q.id id) (prepares log) p look).1;
+    }
 
 -- a transaction that Settle ended is committed
 settled_commit : (plan : Setting) (n m : Node) (id : TxnId) → IsSettled plan n m → finished n.log id ≡ false → finished m.log id ≡ true → IsCommitIn m.log id
@@ -121,10 +120,11 @@ settled_commit plan n m id s open_then ended =
     by_record (Commit other time) there only ends_it =
         let one : other ≡ id = same_id_is other id ends_it in
         let in_log : Contains m.log (Commit other time) =
-          subst (λ log. Contains log (Commit other time)) (sym s.grown) (Contains-append_right n.log s.more (Commit other time) there) in
+        subst (λ log. Contains log (Commit other time)) (sym s.grown) (Contains-append_right n.log s.more (Commit other time) there) in
         let backed : is_some (prepare_of m.log other) ≡ true = All-contains (IsBacked m.log) m.log (Commit other time) s.kept.laws.pool.backed in_log in
         subst (IsCommitIn m.log) one (event_of_commit m.log other time backed in_log)
     by_record (Abort other time cause) there only ends_it = absurd only
+
     by_side : (finished n.log id ≡ true) ⊎ (finished s.more id ≡ true) → IsCommitIn m.log id
     by_side (inl before) = absurd (both_ways (finished n.log id) open_then before)
     by_side (inr later) =
@@ -144,11 +144,11 @@ commit_own site (Abort id time cause) h = absurd h
 kept_entered : (plan : Setting) (n : Node) (p : Transaction) → IsKept plan n → p.id.site ≡ n.site → clock plan n < p.id.time → IsAsked n.log p
     → IsKept plan (entered plan n p)
 kept_entered plan n p h own above taken = record {
-    here = h.here;
-    placed = placed_entered plan n.site n p h.placed;
-    laws = laws_entered plan n p (record { here = h.here; sized = h.placed.sized }) h.laws own above taken;
-    serial = subst IsSerial (sym (commits_prepare n.log p h.laws.pool.backed)) h.serial;
-  }
+  here = h.here;
+  placed = placed_entered plan n.site n p h.placed;
+  laws = laws_entered plan n p (record { here = h.here; sized = h.placed.sized }) h.laws own above taken;
+  serial = subst IsSerial (sym (commits_prepare n.log p h.laws.pool.backed)) h.serial;
+}
 
 -- a commit event of an id that one Prepare of the log has is that of this Prepare
 event_is : (log : List Record) (p : Transaction) → AllPairs (λ a b. same_id a.id b.id ≡ false) (prepares log) → Contains (prepares log) p
@@ -163,7 +163,7 @@ module _ (plan : Setting) (n : Node) (id : TxnId) (ask : Asking) (h : IsKept pla
     (taken : IsAsked n.log (asked n.log id ask)) where
   unended : finished (n.log ++ Prepare (asked n.log id ask) ∷ []) id ≡ false
   unended = finished_push n.log (Prepare (asked n.log id ask)) id ∙ or_false (finished n.log id)
-    ∙ fresh_unended n.log id h.laws.pool.backed (new_id plan n id h.laws.times own above)
+      ∙ fresh_unended n.log id h.laws.pool.backed (new_id plan n id h.laws.times own above)
 
   -- the node after Settle
   abbrev after : Node
@@ -184,8 +184,12 @@ module _ (plan : Setting) (n : Node) (id : TxnId) (ask : Asking) (h : IsKept pla
   committed_in : finished after.log id ≡ true → IsCommittedIn n.site n.log after.log ask id
   committed_in ended =
       let c : IsCommitIn after.log id = settled_commit plan (entered plan n (asked n.log id ask)) after id settled unended ended in
-      record { taken = taken_in; event = c.event; stands = c.stands;
-        asked_for = event_is after.log (asked n.log id ask) settled.kept.laws.pool.ids prepared_after c }
+      record {
+        taken = taken_in;
+        event = c.event;
+        stands = c.stands;
+        asked_for = event_is after.log (asked n.log id ask) settled.kept.laws.pool.ids prepared_after c;
+      }
 
   accept_answered : IsAnswered plan n ask (accept plan n (asked n.log id ask))
   accept_answered =
@@ -195,7 +199,7 @@ module _ (plan : Setting) (n : Node) (id : TxnId) (ask : Asking) (h : IsKept pla
           more = Prepare (asked n.log id ask) ∷ s.more;
           grown = s.grown ∙ append_assoc n.log (Prepare (asked n.log id ask) ∷ []) s.more;
           own = All-cons (λ r. origin r ≡ n.site) (Prepare (asked n.log id ask)) s.more own
-            (All-weaker (IsCommitOf n.site) (λ r. origin r ≡ n.site) (commit_own n.site) s.more s.only);
+              (All-weaker (IsCommitOf n.site) (λ r. origin r ≡ n.site) (commit_own n.site) s.more s.only);
           same_site = s.same_site;
           kept = s.kept;
         };
@@ -204,11 +208,11 @@ module _ (plan : Setting) (n : Node) (id : TxnId) (ask : Asking) (h : IsKept pla
 
 follows_asked : (log : List Record) (id : TxnId) (ask : Asking) → stale_read log ask.reads ≡ None → Follows (current log) (asked log id ask)
 follows_asked log id ask none = record {
-    reads = All-weaker (λ r. not (same_version r.version (current log r.key)) ≡ false) (λ r. r.version ≡ current log r.key)
+  reads = All-weaker (λ r. not (same_version r.version (current log r.key)) ≡ false) (λ r. r.version ≡ current log r.key)
       (λ r fresh. same_version_is r.version (current log r.key) (not-false (same_version r.version (current log r.key)) fresh))
       ask.reads (find_none (λ r. not (same_version r.version (current log r.key))) ask.reads none);
-    writes = All-map (λ w. w.over ≡ current log w.key) (write_at log) ask.puts (λ k d low. refl);
-  }
+  writes = All-map (λ w. w.over ≡ current log w.key) (write_at log) ask.puts (λ k d low. refl);
+}
 
 next_own_above : (plan : Setting) (n : Node) (reading : ℕ) → clock plan n < next_time plan n reading
 next_own_above plan n reading = omega arith

@@ -1,16 +1,14 @@
-use Rattle.std.proofs.Common.{◌≡◌, ◌≢◌, ◌∙◌, ap, refl, sym, subst, ℕ, ◌+◌, ◌*◌, ◌<◌, ◌≤◌, Bool, true, false, ◌⊎◌, inl, inr, nat_eq, eqb-true, eq-eqb, List, [], ◌∷◌, ◌++◌, length, filter, All, AllPairs, Contains, arith}
-use Rattle.std.proofs.lemmas.List.Elements.{All-nil, All-append, All-weaker, All-contains}
+use Rattle.std.proofs.Common.{◌≡◌, ◌≢◌, ◌∙◌, refl, sym, subst, ℕ, ◌+◌, ◌*◌, ◌<◌, ◌≤◌, true, ◌⊎◌, inl, inr, eq-eqb, List, [], ◌∷◌, length, filter, All, Contains, arith}
+use Rattle.std.proofs.lemmas.List.Elements.{All-nil, All-append, All-contains}
 use Rattle.std.proofs.lemmas.Bool.{cases_eq}
-use Rattle.helios_model.specs.declared.input.Entry.{Entry}
-use Rattle.helios_model.specs.declared.record.Record.{Record}
 use Rattle.helios_model.specs.declared.record.Record.TheVariants.{Prepare, Commit}
 use Rattle.helios_model.specs.declared.commits.CommitEvent.{CommitEvent}
 use Rattle.helios_model.specs.Setting.{Setting, IsAccepted, count_of, rtt, latency}
 use Rattle.helios_model.specs.Log.{own_time, commits}
-use Rattle.helios_model.specs.Node.{Node, empty_node, known}
+use Rattle.helios_model.specs.Node.{Node, known}
 use Rattle.helios_model.specs.Step.{after_entries}
 use Rattle.helios_model.specs.Serial.{IsSerial}
-use Rattle.helios_model.specs.World.{World, Event, MayRun, first_world, node_of, is_own_commit, own_commits, happens, run}
+use Rattle.helios_model.specs.World.{World, Event, first_world, node_of, is_own_commit, own_commits, happens, run}
 use Rattle.helios_model.specs.World.Event.{Batch}
 use Rattle.helios_model.specs.World.Ending.{Done}
 use Rattle.helios_model.specs.Laws.Nodes.{IsWaited}
@@ -33,8 +31,8 @@ commits_own plan w k low = all_from (λ e. is_own_commit k e ≡ true) (commits 
 serial_of_own : (plan : Setting) (w : World) (k : ℕ) → IsReached plan w → k < count_of plan → All (λ e. is_own_commit k e ≡ true) w.history → IsSerial w.history
 serial_of_own plan w k h low own =
     let same : w.history ≡ commits (node_of plan w k).log =
-      sym (keeps_all (is_own_commit k) w.history own) ∙ h.history.own k low
-        ∙ keeps_all (is_own_commit k) (commits (node_of plan w k).log) (commits_own plan w k low) in
+    sym (keeps_all (is_own_commit k) w.history own) ∙ h.history.own k low
+    ∙ keeps_all (is_own_commit k) (commits (node_of plan w k).log) (commits_own plan w k low) in
     subst IsSerial (sym same) (node_gone plan w k low).kept.serial
 
 history_at : (plan : Setting) (w : World) (site : ℕ) (events : List Event) → AreAt site events → All (λ e. is_own_commit site e ≡ true) w.history
@@ -42,15 +40,15 @@ history_at : (plan : Setting) (w : World) (site : ℕ) (events : List Event) →
 history_at plan w site [] at_site own = own
 history_at plan w site (Batch here entries Done ∷ es) at_site own =
     history_at plan (happens plan w (Batch here entries Done)) site es at_site.1
-      (All-append (λ e. is_own_commit site e ≡ true) w.history
-        (own_commits here (after_entries plan (node_of plan w here) entries).log (length (node_of plan w here).log)) own
-        (subst (λ s. All (λ e. is_own_commit s e ≡ true) (own_commits here (after_entries plan (node_of plan w here) entries).log (length (node_of plan w here).log)))
-          at_site.0 (gained_own here (after_entries plan (node_of plan w here) entries).log (length (node_of plan w here).log))))
+    (All-append (λ e. is_own_commit site e ≡ true) w.history
+    (own_commits here (after_entries plan (node_of plan w here) entries).log (length (node_of plan w here).log)) own
+    (subst (λ s. All (λ e. is_own_commit s e ≡ true) (own_commits here (after_entries plan (node_of plan w here) entries).log (length (node_of plan w here).log)))
+    at_site.0 (gained_own here (after_entries plan (node_of plan w here) entries).log (length (node_of plan w here).log))))
 
 pub serial_at_one_site : SerialAtOneSite
 serial_at_one_site plan site low events at_site may =
     serial_of_own plan (run plan (first_world plan) events) site (each_reached plan events may) low
-      (history_at plan (first_world plan) site events at_site (All-nil (λ e. is_own_commit site e ≡ true)))
+    (history_at plan (first_world plan) site events at_site (All-nil (λ e. is_own_commit site e ≡ true)))
 
 -- an event of the history is one of its site's log
 pub event_at_home : (plan : Setting) (w : World) (e : CommitEvent) → IsReached plan w → Contains w.history e
@@ -58,11 +56,11 @@ pub event_at_home : (plan : Setting) (w : World) (e : CommitEvent) → IsReached
 event_at_home plan w e h there =
     let low : e.prepare.id.site < count_of plan = All-contains (λ x. x.prepare.id.site < count_of plan) w.history e h.history.sites there in
     let own : Contains (filter (is_own_commit e.prepare.id.site) w.history) e =
-      contains_filter (is_own_commit e.prepare.id.site) w.history e there (eq-eqb e.prepare.id.site e.prepare.id.site refl) in
+    contains_filter (is_own_commit e.prepare.id.site) w.history e there (eq-eqb e.prepare.id.site e.prepare.id.site refl) in
     let moved : Contains (filter (is_own_commit e.prepare.id.site) (commits (node_of plan w e.prepare.id.site).log)) e =
-      subst (λ es. Contains es e) (h.history.own e.prepare.id.site low) own in
+    subst (λ es. Contains es e) (h.history.own e.prepare.id.site low) own in
     event_of (node_of plan w e.prepare.id.site).log e
-      (contains_from_filter (is_own_commit e.prepare.id.site) (commits (node_of plan w e.prepare.id.site).log) e moved).0
+    (contains_from_filter (is_own_commit e.prepare.id.site) (commits (node_of plan w e.prepare.id.site).log) e moved).0
 
 -- a site that commits and has heard of no other: the time of the id, and the latency, are within each round trip
 waited_alone : (plan : Setting) (w : World) (e : CommitEvent) (j : ℕ) → IsReached plan w → Contains w.history e → j < count_of plan → j ≢ e.prepare.id.site
@@ -75,10 +73,10 @@ waited_alone plan w e j h there low_j apart =
     let silent : IsUnheard plan k n = node_unheard plan w k in
     let apart_here : j ≢ n.site = (λ same. apart (same ∙ silent.at_site)) in
     let waited : e.prepare.id.time + latency plan n.site ≤ known plan n n.site j + rtt plan n.site j =
-      All-contains (IsWaited plan n) n.log (Commit e.prepare.id e.time) (node_laws plan w k low).waited home.committed (sym silent.at_site) j low_j apart_here in
+    All-contains (IsWaited plan n) n.log (Commit e.prepare.id e.time) (node_laws plan w k low).waited home.committed (sym silent.at_site) j low_j apart_here in
     let nothing : known plan n n.site j ≡ 0 = silent.unheard j apart_here in
     let some : 0 < e.prepare.id.time =
-      All-contains (λ r. 0 < own_time r) n.log (Prepare e.prepare) (node_laws plan w k low).times.positive (prepare_stands n.log e.prepare home.prepared) in
+    All-contains (λ r. 0 < own_time r) n.log (Prepare e.prepare) (node_laws plan w k low).times.positive (prepare_stands n.log e.prepare home.prepared) in
     let at_n : 1 + latency plan n.site ≤ rtt plan n.site j = omega arith in
     subst (λ s. 1 + latency plan s ≤ rtt plan s j) silent.at_site at_n
 
@@ -102,15 +100,17 @@ history_is_serial plan events may accepted = by_history (run plan (first_world p
   where
     h : IsReached plan (run plan (first_world plan) events)
     h = each_reached plan events may
+
     by_site : (e f : CommitEvent) → Contains (run plan (first_world plan) events).history e → Contains (run plan (first_world plan) events).history f
         → (f.prepare.id.site ≡ e.prepare.id.site) ⊎ (f.prepare.id.site ≡ e.prepare.id.site → ⊥) → is_own_commit e.prepare.id.site f ≡ true
     by_site e f at_e at_f (inl same) = eq-eqb f.prepare.id.site e.prepare.id.site same
     by_site e f at_e at_f (inr apart) = absurd (one_commits plan (run plan (first_world plan) events) e f accepted h at_e at_f apart)
+
     by_history : (es : List CommitEvent) → (run plan (first_world plan) events).history ≡ es → IsSerial (run plan (first_world plan) events).history
     by_history [] same = subst IsSerial (sym same) (record { distinct = λ i j d less low. absurd (omega arith); serial = tt })
     by_history (e ∷ es) same =
         let at_e : Contains (run plan (first_world plan) events).history e = subst (λ xs. Contains xs e) (sym same) (contains_here e es) in
         serial_of_own plan (run plan (first_world plan) events) e.prepare.id.site h
-          (All-contains (λ x. x.prepare.id.site < count_of plan) (run plan (first_world plan) events).history e h.history.sites at_e)
-          (all_from (λ f. is_own_commit e.prepare.id.site f ≡ true) (run plan (first_world plan) events).history
-            (λ f at_f. by_site e f at_e at_f (cases_eq f.prepare.id.site e.prepare.id.site)))
+        (All-contains (λ x. x.prepare.id.site < count_of plan) (run plan (first_world plan) events).history e h.history.sites at_e)
+        (all_from (λ f. is_own_commit e.prepare.id.site f ≡ true) (run plan (first_world plan) events).history
+        (λ f at_f. by_site e f at_e at_f (cases_eq f.prepare.id.site e.prepare.id.site)))

@@ -1,4 +1,4 @@
-use Rattle.std.proofs.Common.{◌≡◌, ◌∙◌, ap, refl, sym, subst, ℕ, ◌<◌, Bool, true, false, Option, Some, List, [], ◌∷◌, ◌++◌, length, get_or, fold, All, AllPairs, Contains}
+use Rattle.std.proofs.Common.{◌≡◌, ◌∙◌, ap, sym, subst, ℕ, ◌<◌, false, Some, List, [], ◌∷◌, ◌++◌, length, get_or, fold, All, Contains}
 use Rattle.std.proofs.lemmas.List.Elements.{Contains-get_or}
 use Rattle.std.proofs.lemmas.List.Quantifiers.{all_pairs_push}
 use Rattle.std.proofs.lemmas.Bool.{both_ways, false_from_ne_true}
@@ -34,9 +34,11 @@ serial_commit log id time p backed h found unended follows =
   where
     named : p.id ≡ id
     named = same_id_is p.id id (find_passes (λ q. same_id q.id id) (prepares log) p found).1
+
     apart : (e : CommitEvent) → Contains (commits log) e → same_id e.prepare.id p.id ≡ false
     apart e there = false_from_ne_true (same_id e.prepare.id p.id) (λ same.
         let one : e.prepare.id ≡ id = same_id_is e.prepare.id p.id same ∙ named in
         both_ways (finished log id) unended (ap (finished log) (sym one) ∙ event_ends log e there))
+
     differs : (k : ℕ) (d : CommitEvent) → k < length (commits log) → same_id (get_or (commits log) k d).prepare.id p.id ≡ false
     differs k d low = apart (get_or (commits log) k d) (Contains-get_or (commits log) k d low)

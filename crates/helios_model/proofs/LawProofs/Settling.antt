@@ -1,4 +1,4 @@
-use Rattle.std.proofs.Common.{◌≡◌, ◌∙◌, ap, refl, sym, subst, ℕ, ◌+◌, ◌<◌, ◌≤◌, Bool, true, false, not, get_or, length, ◌||◌, ◌⊎◌, inl, inr, nat_eq, Option, Some, None, is_some, List, [], ◌∷◌, ◌++◌, append_assoc, map, fold, filter, find, All, AllPairs, Contains, arith, eqb-true}
+use Rattle.std.proofs.Common.{◌≡◌, ◌∙◌, ap, refl, sym, ℕ, ◌+◌, ◌<◌, ◌≤◌, true, false, not, get_or, length, ◌||◌, ◌⊎◌, inl, inr, nat_eq, Option, Some, None, is_some, List, [], ◌∷◌, ◌++◌, append_assoc, map, fold, filter, All, AllPairs, Contains, arith, eqb-true}
 use Rattle.std.proofs.lemmas.List.{append-nil}
 use Rattle.std.specs.List.{range_with_len}
 use Rattle.std.proofs.lemmas.List.Elements.{All-nil, All-cons, All-head, All-tail, All-weaker, All-contains, filter_passes}
@@ -12,9 +12,9 @@ use Rattle.helios_model.specs.Ids.{same_id}
 use Rattle.helios_model.specs.Transaction.{Transaction}
 use Rattle.helios_model.specs.Setting.{Setting, count_of, rtt, latency}
 use Rattle.helios_model.specs.Offset.{is_past}
-use Rattle.helios_model.specs.Log.{ends, finished, prepares, prepare_of, unfinished, commits, current}
+use Rattle.helios_model.specs.Log.{finished, prepares, prepare_of, unfinished, commits, current}
 use Rattle.helios_model.specs.Node.{Node, known, clock, is_own, own_open, with_record}
-use Rattle.helios_model.specs.Settle.{is_reached, ready, commit_one, settle}
+use Rattle.helios_model.specs.Settle.{is_reached, commit_one, settle}
 use Rattle.helios_model.specs.Serial.{Follows, IsSerial}
 use Rattle.helios_model.specs.Laws.Placed.{IsPlaced}
 use Rattle.helios_model.specs.Laws.Nodes.{NodeLaws}
@@ -22,7 +22,7 @@ use Rattle.helios_model.proofs.LawProofs.Placed.{placed_clock}
 use Rattle.helios_model.proofs.LawProofs.Lists.{all_from, find_passes, find_finds, contains_from_filter, pairs_cases, pairs_head, pairs_tail}
 use Rattle.helios_model.proofs.LawProofs.Ids.{same_id_is, same_id_of, same_id_itself}
 use Rattle.helios_model.proofs.LawProofs.Push.{finished_push, prepare_of_grows, unfinished_is, unfinished_has}
-use Rattle.helios_model.proofs.LawProofs.NodeSteps.{IsWithin, IsOpen, HasWaited, goes_on_waiting, laws_committed}
+use Rattle.helios_model.proofs.LawProofs.NodeSteps.{IsOpen, HasWaited, goes_on_waiting, laws_committed}
 use Rattle.helios_model.proofs.LawProofs.SerialSteps.{serial_commit}
 
 -- a look-up of a Prepare's id finds this Prepare
@@ -34,6 +34,7 @@ found_itself log p ids there = by_find (prepare_of log p.id) refl (find_finds (�
     by_case q same (inl one) = sym one
     by_case q same (inr (inl apart)) = absurd (both_ways (same_id p.id q.id) apart (same_id_of p.id q.id (sym (same_id_is q.id p.id same))))
     by_case q same (inr (inr apart)) = absurd (both_ways (same_id q.id p.id) apart same)
+
     by_find : (o : Option Transaction) → prepare_of log p.id ≡ o → is_some o ≡ true → prepare_of log p.id ≡ Some p
     by_find None look none = absurd (cc)
     by_find (Some q) look some =
@@ -67,46 +68,46 @@ follows_open plan n p h o =
 
 pub kept_commit : (plan : Setting) (n : Node) (p : Transaction) → IsKept plan n → IsOpen n p → HasWaited plan n p → IsKept plan (commit_one plan n p.id)
 kept_commit plan n p h o w = record {
-    here = h.here;
-    placed = placed_clock plan n.site (with_record n (Commit p.id (clock plan n + 1))) (clock plan n + 1) (record { at_site = refl; sized = h.placed.sized });
-    laws = laws_committed plan n p (record { here = h.here; sized = h.placed.sized }) h.laws o w;
-    serial = serial_commit n.log p.id (clock plan n + 1) p h.laws.pool.backed h.serial o.found o.unended (follows_open plan n p h.laws o);
-  }
+  here = h.here;
+  placed = placed_clock plan n.site (with_record n (Commit p.id (clock plan n + 1))) (clock plan n + 1) (record { at_site = refl; sized = h.placed.sized });
+  laws = laws_committed plan n p (record { here = h.here; sized = h.placed.sized }) h.laws o w;
+  serial = serial_commit n.log p.id (clock plan n + 1) p h.laws.pool.backed h.serial o.found o.unended (follows_open plan n p h.laws o);
+}
 
 still_open : (plan : Setting) (n : Node) (p q : Transaction) → same_id p.id q.id ≡ false → IsOpen n q → IsOpen (commit_one plan n p.id) q
 still_open plan n p q apart o = record {
-    found = prepare_of_grows n.log (Commit p.id (clock plan n + 1) ∷ []) q.id (ap (λ x. is_some x) o.found) ∙ o.found;
-    unended = finished_push n.log (Commit p.id (clock plan n + 1)) q.id ∙ or_from (finished n.log q.id) (same_id p.id q.id) o.unended apart;
-    own = o.own;
-  }
+  found = prepare_of_grows n.log (Commit p.id (clock plan n + 1) ∷ []) q.id (ap (λ x. is_some x) o.found) ∙ o.found;
+  unended = finished_push n.log (Commit p.id (clock plan n + 1)) q.id ∙ or_from (finished n.log q.id) (same_id p.id q.id) o.unended apart;
+  own = o.own;
+}
 
 pub commits_go : (plan : Setting) (n : Node) (ps : List Transaction) → IsKept plan n → All (IsOpen n) ps → All (HasWaited plan n) ps
     → AllPairs (λ a b. same_id a.id b.id ≡ false) ps → IsSettled plan n (fold (commit_one plan) n (map (λ p. p.id) ps))
 commits_go plan n [] h opens waits ids = record {
-    more = [];
-    grown = sym (append-nil n.log);
-    only = All-nil (IsCommitOf n.site);
-    same_site = refl;
-    kept = h;
-  }
+  more = [];
+  grown = sym (append-nil n.log);
+  only = All-nil (IsCommitOf n.site);
+  same_site = refl;
+  kept = h;
+}
 commits_go plan n (p ∷ ps) h opens waits ids =
     let o : IsOpen n p = All-head (IsOpen n) p ps opens in
     let apart : All (λ q. same_id p.id q.id ≡ false) ps = pairs_head (λ a b. same_id a.id b.id ≡ false) p ps ids in
     let still : All (IsOpen (commit_one plan n p.id)) ps =
-      (λ k d low. still_open plan n p (get_or ps k d) (apart k d low) (All-tail (IsOpen n) p ps opens k d low)) in
+    (λ k d low. still_open plan n p (get_or ps k d) (apart k d low) (All-tail (IsOpen n) p ps opens k d low)) in
     let waiting : All (HasWaited plan (commit_one plan n p.id)) ps =
-      (λ k d low. goes_on_waiting plan n (Commit p.id (clock plan n + 1)) (clock plan n + 1) (get_or ps k d) (All-tail (HasWaited plan n) p ps waits k d low)) in
+    (λ k d low. goes_on_waiting plan n (Commit p.id (clock plan n + 1)) (clock plan n + 1) (get_or ps k d) (All-tail (HasWaited plan n) p ps waits k d low)) in
     joined (commits_go plan (commit_one plan n p.id) ps (kept_commit plan n p h o (All-head (HasWaited plan n) p ps waits)) still waiting (pairs_tail (λ a b. same_id a.id b.id ≡ false) p ps ids)) o
   where
     joined : IsSettled plan (commit_one plan n p.id) (fold (commit_one plan) (commit_one plan n p.id) (map (λ q. q.id) ps)) → IsOpen n p
         → IsSettled plan n (fold (commit_one plan) (commit_one plan n p.id) (map (λ q. q.id) ps))
     joined rest o = record {
-        more = Commit p.id (clock plan n + 1) ∷ rest.more;
-        grown = rest.grown ∙ append_assoc n.log (Commit p.id (clock plan n + 1) ∷ []) rest.more;
-        only = All-cons (IsCommitOf n.site) (Commit p.id (clock plan n + 1)) rest.more o.own rest.only;
-        same_site = rest.same_site;
-        kept = rest.kept;
-      }
+      more = Commit p.id (clock plan n + 1) ∷ rest.more;
+      grown = rest.grown ∙ append_assoc n.log (Commit p.id (clock plan n + 1) ∷ []) rest.more;
+      only = All-cons (IsCommitOf n.site) (Commit p.id (clock plan n + 1)) rest.more o.own rest.only;
+      same_site = rest.same_site;
+      kept = rest.kept;
+    }
 
 own_open_is : (n : Node) (p : Transaction) → AllPairs (λ a b. same_id a.id b.id ≡ false) (prepares n.log) → Contains (own_open n) p → IsOpen n p
 own_open_is n p ids there =
@@ -124,10 +125,10 @@ reached_waited plan n p reached j low apart =
     let here : get_or (range_with_len 0 (count_of plan)) j 0 ≡ j = get_or-range_with_len 0 (count_of plan) j 0 low ∙ omega arith in
     let inside : j < length (range_with_len 0 (count_of plan)) = rw (length-range_with_len 0 (count_of plan)) low in
     let passes : (nat_eq j n.site || is_past plan n.site j p.id.time (known plan n n.site j)) ≡ true =
-      true_from_ne_false (nat_eq j n.site || is_past plan n.site j p.id.time (known plan n n.site j)) (λ fails.
-        both_ways (is_reached plan n p.id.time)
-          (list_all_at (λ i. nat_eq i n.site || is_past plan n.site i p.id.time (known plan n n.site i)) (range_with_len 0 (count_of plan)) j 0 inside
-            (ap (λ i. nat_eq i n.site || is_past plan n.site i p.id.time (known plan n n.site i)) here ∙ fails)) reached) in
+    true_from_ne_false (nat_eq j n.site || is_past plan n.site j p.id.time (known plan n n.site j)) (λ fails.
+    both_ways (is_reached plan n p.id.time)
+    (list_all_at (λ i. nat_eq i n.site || is_past plan n.site i p.id.time (known plan n n.site i)) (range_with_len 0 (count_of plan)) j 0 inside
+    (ap (λ i. nat_eq i n.site || is_past plan n.site i p.id.time (known plan n n.site i)) here ∙ fails)) reached) in
     by_side (or_cases (nat_eq j n.site) (is_past plan n.site j p.id.time (known plan n n.site j)) passes)
   where
     by_side : (nat_eq j n.site ≡ true) ⊎ (is_past plan n.site j p.id.time (known plan n n.site j) ≡ true)
@@ -138,10 +139,10 @@ reached_waited plan n p reached j low apart =
 pub settle_goes : (plan : Setting) (n : Node) → IsKept plan n → IsSettled plan n (settle plan n)
 settle_goes plan n h =
     commits_go plan n (filter (λ p. is_reached plan n p.id.time) (own_open n)) h
-      (all_from (IsOpen n) (filter (λ p. is_reached plan n p.id.time) (own_open n))
-        (λ p there. own_open_is n p h.laws.pool.ids (contains_from_filter (λ q. is_reached plan n q.id.time) (own_open n) p there).0))
-      (All-weaker (λ p. is_reached plan n p.id.time ≡ true) (HasWaited plan n) (λ p reached. reached_waited plan n p reached)
-        (filter (λ p. is_reached plan n p.id.time) (own_open n)) (filter_passes (λ p. is_reached plan n p.id.time) (own_open n)))
-      (AllPairs-filter (λ a b. same_id a.id b.id ≡ false) (λ p. is_reached plan n p.id.time) (own_open n)
-        (AllPairs-filter (λ a b. same_id a.id b.id ≡ false) (is_own n.site) (unfinished n.log)
-          (AllPairs-filter (λ a b. same_id a.id b.id ≡ false) (λ p. not (finished n.log p.id)) (prepares n.log) h.laws.pool.ids)))
+    (all_from (IsOpen n) (filter (λ p. is_reached plan n p.id.time) (own_open n))
+    (λ p there. own_open_is n p h.laws.pool.ids (contains_from_filter (λ q. is_reached plan n q.id.time) (own_open n) p there).0))
+    (All-weaker (λ p. is_reached plan n p.id.time ≡ true) (HasWaited plan n) (λ p reached. reached_waited plan n p reached)
+    (filter (λ p. is_reached plan n p.id.time) (own_open n)) (filter_passes (λ p. is_reached plan n p.id.time) (own_open n)))
+    (AllPairs-filter (λ a b. same_id a.id b.id ≡ false) (λ p. is_reached plan n p.id.time) (own_open n)
+    (AllPairs-filter (λ a b. same_id a.id b.id ≡ false) (is_own n.site) (unfinished n.log)
+    (AllPairs-filter (λ a b. same_id a.id b.id ≡ false) (λ p. not (finished n.log p.id)) (prepares n.log) h.laws.pool.ids)))

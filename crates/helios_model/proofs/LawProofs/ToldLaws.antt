@@ -1,4 +1,4 @@
-use Rattle.std.proofs.Common.{◌≡◌, ◌∙◌, ap, refl, sym, subst, ℕ, ◌<◌, Bool, true, false, cond, List, [], ◌∷◌, ◌++◌, take, fold, filter, All, Contains}
+use Rattle.std.proofs.Common.{◌≡◌, ◌∙◌, ap, refl, sym, subst, ℕ, ◌<◌, true, List, [], ◌∷◌, take, fold, filter, Contains}
 use Rattle.std.proofs.lemmas.List.{take_at}
 use Rattle.std.proofs.lemmas.List.Elements.{All-weaker, All-contains, Contains-append_left}
 use Rattle.std.proofs.lemmas.Bool.{cond_both}
@@ -41,8 +41,9 @@ current_named history records key known = folded (commits records) Initial (λ e
         → IsVersionIn history records key (version_after key version e)
     after version e there h =
         cond_both (writes_key e.prepare key) (Of e.prepare.id) version (IsVersionIn history records key)
-          (λ writes. record { event = e; stands = known e there; named = refl; writes = writes; logged = (event_of records e there).committed })
-          (λ unwritten. h)
+        (λ writes. record { event = e; stands = known e there; named = refl; writes = writes; logged = (event_of records e there).committed })
+        (λ unwritten. h)
+
     folded : (es : List CommitEvent) (version : Version) → ((e : CommitEvent) → Contains es e → Contains (commits records) e)
         → IsVersionIn history records key version → IsVersionIn history records key (fold (version_after key) version es)
     folded [] version each h = h
@@ -54,12 +55,12 @@ named_says : (site : ℕ) (history : List CommitEvent) (before after : List Reco
 named_says site history before after ask (Prepared id) known h = tt
 named_says site history before after ask (Committed id) known h = tt
 named_says site history before after ask (Overwritten key version) known h = record {
-    read = h.read;
-    asked = h.asked;
-    at_key = h.at_key;
-    other = h.other;
-    committed = subst (IsVersionIn history before key) (sym h.is_current) (current_named history before key known);
-  }
+  read = h.read;
+  asked = h.asked;
+  at_key = h.at_key;
+  other = h.other;
+  committed = subst (IsVersionIn history before key) (sym h.is_current) (current_named history before key known);
+}
 named_says site history before after ask (Conflict id) known h = h
 named_says site history before after ask ClockSpent known h = tt
 named_says site history before after ask PoolFull known h = tt
@@ -71,32 +72,32 @@ named_says_to site history before after (Request ask) reply known h = named_says
 told_is_named : (plan : Setting) (w : World) (t : Told) → IsReached plan w → (t.site < count_of plan) × IsToldIn (node_of plan w t.site).log t → ToldIsNamed plan w t
 told_is_named plan w t h told =
     let front : take t.log_length (node_of plan w t.site).log ≡ told.1.before =
-      ap (take t.log_length) told.1.cut ∙ take_at told.1.before told.1.later t.log_length told.1.size in
+    ap (take t.log_length) told.1.cut ∙ take_at told.1.before told.1.later t.log_length told.1.size in
     subst (λ records. IsNamedTo w.history records t.input t.reply) (sym front)
-      (named_says_to t.site w.history told.1.before (node_of plan w t.site).log t.input t.reply known told.1.says)
+    (named_says_to t.site w.history told.1.before (node_of plan w t.site).log t.input t.reply known told.1.says)
   where
     known : (e : CommitEvent) → Contains (commits told.1.before) e → Contains w.history e
     known e there = in_history plan w t.site e h told.0
-      (subst (λ log. Contains (commits log) e) (sym told.1.cut)
+        (subst (λ log. Contains (commits log) e) (sym told.1.cut)
         (subst (λ es. Contains es e) (sym (commits_grown told.1.before told.1.later told.1.backed))
-          (Contains-append_left (commits told.1.before) _ e there)))
+        (Contains-append_left (commits told.1.before) _ e there)))
 
 pub each_refusal_is_named : EachRefusalIsNamed
 each_refusal_is_named plan events may =
     let h : IsReached plan (run plan (first_world plan) events) = each_reached plan events may in
     All-weaker (λ t. (t.site < count_of plan) × IsToldIn (node_of plan (run plan (first_world plan) events) t.site).log t)
-      (ToldIsNamed plan (run plan (first_world plan) events)) (λ t told. told_is_named plan (run plan (first_world plan) events) t h told)
-      (run plan (first_world plan) events).told h.told
+    (ToldIsNamed plan (run plan (first_world plan) events)) (λ t told. told_is_named plan (run plan (first_world plan) events) t h told)
+    (run plan (first_world plan) events).told h.told
 
 stays : (site : ℕ) (history : List CommitEvent) (before log : List Record) (ask : Asking) (reply : Reply)
     → ((e : CommitEvent) → Contains (commits log) e → Contains history e) → Says site before log ask reply → Stays site history log before ask reply
 stays site history before log ask (Prepared id) known h = record { own = h.own; stands = h.stands }
 stays site history before log ask (Committed id) known h = record {
-    taken = record { own = h.taken.own; stands = h.taken.stands };
-    event = h.event;
-    stands = known h.event h.stands;
-    asked_for = h.asked_for;
-  }
+  taken = record { own = h.taken.own; stands = h.taken.stands };
+  event = h.event;
+  stands = known h.event h.stands;
+  asked_for = h.asked_for;
+}
 stays site history before log ask (Overwritten key version) known h = tt
 stays site history before log ask (Conflict id) known h = tt
 stays site history before log ask ClockSpent known h = tt
@@ -111,11 +112,11 @@ told_stays plan w t h told =
     let log : List Record = (node_of plan w t.site).log in
     let front : take t.log_length log ≡ told.1.before = ap (take t.log_length) told.1.cut ∙ take_at told.1.before told.1.later t.log_length told.1.size in
     subst (λ records. StaysTo t.site w.history log records t.input t.reply) (sym front)
-      (stays_to t.site w.history told.1.before log t.input t.reply (λ e there. in_history plan w t.site e h told.0 there) told.1.says)
+    (stays_to t.site w.history told.1.before log t.input t.reply (λ e there. in_history plan w t.site e h told.0 there) told.1.says)
 
 pub each_told_stays : EachToldStays
 each_told_stays plan events may =
     let h : IsReached plan (run plan (first_world plan) events) = each_reached plan events may in
     All-weaker (λ t. (t.site < count_of plan) × IsToldIn (node_of plan (run plan (first_world plan) events) t.site).log t)
-      (ToldStays plan (run plan (first_world plan) events)) (λ t told. told_stays plan (run plan (first_world plan) events) t h told)
-      (run plan (first_world plan) events).told h.told
+    (ToldStays plan (run plan (first_world plan) events)) (λ t told. told_stays plan (run plan (first_world plan) events) t h told)
+    (run plan (first_world plan) events).told h.told

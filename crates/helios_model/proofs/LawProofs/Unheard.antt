@@ -24,16 +24,16 @@ pub record IsUnheard (plan : Setting) (site : ℕ) (n : Node) : Type 0 where
 unheard_commits : (plan : Setting) (site : ℕ) (n : Node) (ids : List TxnId) → IsUnheard plan site n → IsUnheard plan site (fold (commit_one plan) n ids)
 unheard_commits plan site n [] h = h
 unheard_commits plan site n (id ∷ ids) h = unheard_commits plan site (commit_one plan n id) ids (record {
-    at_site = h.at_site;
-    unheard = λ j apart. known_other plan n (Commit id (clock plan n + 1)) (clock plan n + 1) j apart ∙ h.unheard j apart;
-  })
+  at_site = h.at_site;
+  unheard = λ j apart. known_other plan n (Commit id (clock plan n + 1)) (clock plan n + 1) j apart ∙ h.unheard j apart;
+})
 
 unheard_by_clash : (plan : Setting) (site : ℕ) (n : Node) (p : Transaction) (o : Option Transaction) → IsUnheard plan site n → IsUnheard plan site (by_clash plan n p o).node
 unheard_by_clash plan site n p (Some q) h = h
 unheard_by_clash plan site n p None h = unheard_commits plan site (entered plan n p) (ready plan (entered plan n p)) (record {
-    at_site = h.at_site;
-    unheard = λ j apart. known_other plan n (Prepare p) p.id.time j apart ∙ h.unheard j apart;
-  })
+  at_site = h.at_site;
+  unheard = λ j apart. known_other plan n (Prepare p) p.id.time j apart ∙ h.unheard j apart;
+})
 
 unheard_by_stale : (plan : Setting) (site : ℕ) (n : Node) (p : Transaction) (o : Option ReadItem) → IsUnheard plan site n → IsUnheard plan site (by_stale plan n p o).node
 unheard_by_stale plan site n p (Some r) h = h
@@ -65,4 +65,4 @@ empty_unheard plan k j = by_place (cases_lt (k * count_of plan + j) (count_of pl
 pub node_unheard : (plan : Setting) (w : World) (k : ℕ) → IsUnheard plan k (node_of plan w k)
 node_unheard plan w k =
     unheard_entries plan k (empty_node plan k) (flat_map (λ batch. batch) (journal_of w k))
-      (record { at_site = refl; unheard = λ j apart. empty_unheard plan k j })
+    (record { at_site = refl; unheard = λ j apart. empty_unheard plan k j })

@@ -25,7 +25,7 @@ AreAt site (Batch here entries ending ∷ events) = (here ≡ site) × AreAt sit
 -- where all batches are of one site, the history is a serial one, whatever the plan
 abbrev pub SerialAtOneSite : Type 0
 SerialAtOneSite = (plan : Setting) (site : ℕ) → site < count_of plan → (events : List Event) → AreAt site events
-  → MayRun plan (first_world plan) events → IsSerial (run plan (first_world plan) events).history
+    → MayRun plan (first_world plan) events → IsSerial (run plan (first_world plan) events).history
 
 -- the history is a serial one in each world of an accepted plan
 abbrev pub HistoryIsSerial : Type 0
@@ -34,7 +34,7 @@ HistoryIsSerial = InEachWorld (λ plan w. IsAccepted plan → IsSerial w.history
 -- the events of each site are, in order, the own Commits of its log, and there are no others
 pub record HistoryIsCommits (plan : Setting) (w : World) : Type 0 where
   pub own : (k : ℕ) → k < count_of plan
-    → filter (is_own_commit k) w.history ≡ filter (is_own_commit k) (commits (node_of plan w k).log)
+      → filter (is_own_commit k) w.history ≡ filter (is_own_commit k) (commits (node_of plan w k).log)
   pub sites : All (λ e. e.prepare.id.site < count_of plan) w.history
 
 abbrev pub EachHistoryIsCommits : Type 0
@@ -87,4 +87,4 @@ pub record WorldGrowsTo (plan : Setting) (w v : World) : Type 0 where
 
 abbrev pub EachWorldGrows : Type 0
 EachWorldGrows = (plan : Setting) (w : World) (events : List Event) → length w.journals ≡ count_of plan → MayRun plan w events
-  → WorldGrowsTo plan w (run plan w events)
+    → WorldGrowsTo plan w (run plan w events)

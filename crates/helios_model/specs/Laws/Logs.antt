@@ -30,7 +30,7 @@ EachLogIsOwn = AtEachNode LogIsOwn
 pub record IdsAreGivenOnce (plan : Setting) (w : World) : Type 0 where
   pub in_log : (k : ℕ) → k < count_of plan → AllPairs (λ p q. same_id p.id q.id ≡ false) (prepares (node_of plan w k).log)
   pub across : (i j : ℕ) → i < count_of plan → j < count_of plan → (p q : Transaction) → Contains (prepares (node_of plan w i).log) p
-    → Contains (prepares (node_of plan w j).log) q → p.id ≡ q.id → p ≡ q
+      → Contains (prepares (node_of plan w j).log) q → p.id ≡ q.id → p ≡ q
 
 abbrev pub EachIdIsGivenOnce : Type 0
 EachIdIsGivenOnce = InEachWorld IdsAreGivenOnce
@@ -64,7 +64,7 @@ aborted log id = list_any (aborts id) log
 -- q's Prepare stands in the log, p's before it, and the two conflict: then p has its Commit or Abort before q's Prepare
 abbrev pub EndsFirst : List Record → Transaction → Transaction → Type 0
 EndsFirst log p q = (before after : List Record) → log ≡ before ++ Prepare q ∷ after → Contains (prepares before) p → conflict p q ≡ true
-  → finished before p.id ≡ true
+    → finished before p.id ≡ true
 
 -- no Prepare behind an own unfinished one conflicts with it; and of two that conflict, of which the later one is own, or
 -- the earlier one is own and never aborted, the earlier one is ended before the later one is taken
