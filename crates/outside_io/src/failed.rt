@@ -7,7 +7,7 @@ pub struct Failed;
 
 impl fmt::Display for Failed {
     fn fmt<W: fmt::Write>(&self, f: &mut fmt::Formatter<W>) -> fmt::Result {
-        write!(f, "failed")
+        write!(f, "the outside failed")
     }
 }
 
