@@ -1,7 +1,7 @@
-ghost use Rattle.std.specs.Prelude.{◌≡◌, ℕ, ◌+◌, ◌<◌, ◌≤◌, List, [], Option, length, IfOk, IfSome, IfNone, IsOk, OnOk, IsErrOf, vec_len};
+ghost use Rattle.std.specs.Prelude.{◌≡◌, ℕ, ◌+◌, ◌<◌, ◌≤◌, List, [], Some, Option, length, IfOk, IfSome, IfNone, IsOk, OnOk, IsErrOf, vec_len};
 ghost use Rattle.std.specs.Io.KnownBytes.{Appends, IsAtEnd};
 ghost use Rattle.outside_io.specs.Causes.{HasCause, IsCount, Rose, StaysTold};
-ghost use Rattle.outside_io.specs.Whole.{AppendsPrefix, HasGrown, IsOverLimit, IsWholeInput, TakesAtMost};
+ghost use Rattle.outside_io.specs.Whole.{AppendsPrefix, HasGrown, input_error_text, IsOverLimit, IsWholeInput, TakesAtMost};
 ghost use Rattle.outside_io.specs.declared.whole.InputError.TheVariants.{Failed as ReadFailed, NoMemory};
 
 use crate::{Failed, Sink, Source};
@@ -17,6 +17,8 @@ pub enum InputError {
 }
 
 impl fmt::Display for InputError {
+    ghost output = { λ error. Some (input_error_text error) };
+
     fn fmt<W: fmt::Write>(&self, f: &mut fmt::Formatter<W>) -> fmt::Result {
         match self {
             InputError::Failed => write!(f, "a read failed"),
