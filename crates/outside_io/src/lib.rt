@@ -1,0 +1,23 @@
+//! The outside of the program as traits: where bytes come from and where they go, with what a
+//! failure leaves. The layer above reads with `read_whole` and writes with `write_whole`.
+#![tactic(auto)]
+
+mod failed;
+mod memory_sink;
+mod memory_source;
+mod quiet;
+mod script;
+mod system;
+#[cfg(test)]
+mod tests;
+mod traits;
+mod unread;
+mod whole;
+
+pub use failed::Failed;
+pub use memory_sink::MemSink;
+pub use memory_source::MemSource;
+pub use quiet::{NullSink, QuietSource};
+pub use system::{StdSink, StdSource};
+pub use traits::{Sink, Source};
+pub use whole::{InputError, read_whole, write_whole};
