@@ -1,0 +1,91 @@
+ghost use Rattle.std.specs.Prelude.{◌≡◌, ◌⊎◌, Some, IfOk, MatchResult};
+ghost use Rattle.helios_top.specs.Answer.{answer_to};
+ghost use Rattle.helios_top.specs.Run.{Ends, MayEnd, Wrote, WroteText};
+ghost use Rattle.helios_top.specs.Words.{command_of, texts};
+
+use crate::words::read_words;
+use crate::{Answer, Command, Ending, INPUT_LIMIT, Status, replay};
+use outside_io::{InputError, Sink, Source, read_whole, write_whole};
+use std::alloc::{AllocError, Global};
+
+/// Does what the words ask for, which are without the program's own name: reads the input, writes
+/// one text or one line, and gives the exit status.
+pub fn run<S: Source, K: Sink>(
+    alloc: Global,
+    words: &Vec<String>,
+    input: &mut S,
+    output: &mut K,
+) -> Status
+    ensures ends { Ends (command_of (texts words.now.items)) (S.left input.old) (S.left input.new)
+        (S.faults input.old) (S.faults input.new) (K.taken output.old) (K.taken output.new)
+        (K.faults output.old) (K.faults output.new) result.0 }
+{
+    let ending = ending_of(alloc, words, input);
+    write_ending(alloc, output, ending)
+}
+
+/// All that a run does before it writes.
+fn ending_of<S: Source>(alloc: Global, words: &Vec<String>, input: &mut S) -> Ending
+    ensures { MayEnd (command_of (texts words.now.items)) (S.left input.old) (S.left input.new)
+        (S.faults input.old) (S.faults input.new) result }
+{
+    match read_words(words) {
+        None => Ending::Usage,
+        Some(command) => read_and_answer(alloc, command, input),
+    }
+}
+
+/// What a command comes to over its input.
+fn read_and_answer<S: Source>(alloc: Global, command: Command, input: &mut S) -> Ending
+    ensures { MayEnd (Some command) (S.left input.old) (S.left input.new)
+        (S.faults input.old) (S.faults input.new) result }
+{
+    match read_whole(alloc, input, INPUT_LIMIT) {
+        Ok(Some(bytes)) => answered(answer(alloc, command, bytes.as_slice())),
+        Ok(None) => Ending::TooLarge,
+        Err(InputError::Failed) => Ending::ReadFault,
+        Err(InputError::NoMemory) => Ending::NoMemory,
+    }
+}
+
+fn answered(answer: Result<Answer, AllocError>) -> Ending
+    ensures { MatchResult answer (λ a. result ≡ Ending.Answered a) (λ _. result ≡ Ending.NoMemory) }
+{
+    match answer {
+        Ok(answer) => Ending::Answered(answer),
+        Err(_) => Ending::NoMemory,
+    }
+}
+
+/// The answer of a command to its whole input.
+fn answer(alloc: Global, command: Command, input: &[u8]) -> Result<Answer, AllocError>
+    ensures { IfOk result (λ answer. answer ≡ answer_to command input.now) }
+{
+    match command {
+        Command::Replay => replay::answer(alloc, input),
+    }
+}
+
+/// Writes what is due for the ending, or the line for want of memory where there is none for it.
+#[tactic(auto, unfolding(crate::specs::Ending::text_of))]
+fn write_ending<K: Sink>(alloc: Global, output: &mut K, ending: Ending) -> Status
+    ensures { Wrote (K.taken output.old) (K.taken output.new) (K.faults output.old) (K.faults output.new) result.0 ending
+        ⊎ Wrote (K.taken output.old) (K.taken output.new) (K.faults output.old) (K.faults output.new) result.0 Ending.NoMemory }
+{
+    let due = ending.status();
+    match ending.into_text(alloc) {
+        Ok(text) => write_text(output, text.items(), due),
+        Err(_) => write_text(output, b"fault memory\n", 4),
+    }
+}
+
+/// Writes the text, and gives the status that is due, or 3 where a write fails.
+fn write_text<K: Sink>(output: &mut K, text: &[u8], due: u8) -> Status
+    ensures { WroteText (K.taken output.old) (K.taken output.new) (K.faults output.old) (K.faults output.new)
+        result.0 due text.now }
+{
+    match write_whole(output, text) {
+        Ok(()) => Status(due),
+        Err(_) => Status(3),
+    }
+}
