@@ -1,0 +1,39 @@
+use Rattle.std.proofs.Common.{arith, rules, ◌∙◌}
+use Rattle.outside_io.proofs.Reading.{over_limit, takes_more, taken_grown, taken_nil}
+use Rattle.outside_io.proofs.whole.read_whole.Goals as goal
+
+pub loop-buffer-init : goal.loop-buffer-init
+loop-buffer-init g c = record {
+  taken = taken_nil _ _ c.new-bytes.ensures.items;
+  tells = search rules;
+  fits = omega arith;
+  later = omega arith;
+  room = search rules;
+}
+
+pub returns-in_err-count-clause-most : goal.returns-in_err-count-clause-most
+returns-in_err-count-clause-most g c = takes_more _ _ _ _ _ _ c.loop-buffer.invariant.taken c.in_err-count.ensures.most (omega (arith, c.loop-buffer.bytes.ok.0))
+
+pub returns-then-count-eq0-clause-whole : goal.returns-then-count-eq0-clause-whole
+returns-then-count-eq0-clause-whole g c = record {
+  taken = taken_grown _ _ _ _ _ _ c.loop-buffer.invariant.taken c.in_ok-count.ensures.gives;
+  ended = c.in_ok-count.ensures.end c.if-count-eq0.true (omega arith);
+}
+
+pub returns-then-count-eq0-clause-most : goal.returns-then-count-eq0-clause-most
+returns-then-count-eq0-clause-most g c = takes_more _ _ _ _ _ _ c.loop-buffer.invariant.taken c.in_ok-count.ensures.most (omega (arith, c.loop-buffer.bytes.ok.0))
+
+pub returns-then-len-limit-clause-over : goal.returns-then-len-limit-clause-over
+returns-then-len-limit-clause-over g c = over_limit _ _ _ _ (taken_grown _ _ _ _ _ _ c.loop-buffer.invariant.taken c.in_ok-count.ensures.gives) (omega (arith, c.read_piece.new.bytes.ok.0))
+
+pub returns-then-len-limit-clause-most : goal.returns-then-len-limit-clause-most
+returns-then-len-limit-clause-most g c = takes_more _ _ _ _ _ _ c.loop-buffer.invariant.taken c.in_ok-count.ensures.most (omega (arith, c.loop-buffer.bytes.ok.0))
+
+pub loop-buffer-preserved : goal.loop-buffer-preserved
+loop-buffer-preserved g c = record {
+  taken = taken_grown _ _ _ _ _ _ c.loop-buffer.invariant.taken c.in_ok-count.ensures.gives;
+  tells = c.in_ok-count.ensures.tells ∙ c.loop-buffer.invariant.tells;
+  fits = omega arith;
+  later = omega (arith, c.in_ok-count.ensures.later, c.loop-buffer.invariant.later);
+  room = omega arith;
+}

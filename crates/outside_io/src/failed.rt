@@ -1,0 +1,14 @@
+use std::error::Error;
+use std::fmt;
+
+/// The outside did not do what it was asked: a read, a write or a call on a disk failed.
+#[derive(Clone, Copy, Debug, PartialEq, Eq)]
+pub struct Failed;
+
+impl fmt::Display for Failed {
+    fn fmt<W: fmt::Write>(&self, f: &mut fmt::Formatter<W>) -> fmt::Result {
+        write!(f, "failed")
+    }
+}
+
+impl Error for Failed {}

@@ -1,0 +1,103 @@
+ghost use Rattle.std.specs.Prelude.{◌≡◌, ℕ, ◌+◌, ◌<◌, ◌≤◌, List, [], Option, length, IfOk, IfSome, IfNone, IsOk, OnOk, IsErrOf, vec_len};
+ghost use Rattle.std.specs.Io.KnownBytes.{Appends, IsAtEnd};
+ghost use Rattle.outside_io.specs.Causes.{HasCause, Rose, StaysTold};
+ghost use Rattle.outside_io.specs.Whole.{AppendsPrefix, HasGrown, IsOverLimit, IsWholeInput, TakesAtMost};
+ghost use Rattle.outside_io.specs.declared.whole.InputError.TheVariants.{Failed as ReadFailed, NoMemory};
+
+use crate::{Failed, Sink, Source};
+use std::alloc::{AllocError, Global};
+
+/// Why an input could not be read: a read failed, or there was no memory for it.
+#[derive(Clone, Copy, Debug, PartialEq, Eq)]
+pub enum InputError {
+    Failed,
+    NoMemory,
+}
+
+impl From<Failed> for InputError {
+    ghost from_gives = { λ _ e. e ≡ ReadFailed };
+
+    fn from(_failed: Failed) -> InputError {
+        InputError::Failed
+    }
+}
+
+impl From<AllocError> for InputError {
+    ghost from_gives = { λ _ e. e ≡ NoMemory };
+
+    fn from(_refused: AllocError) -> InputError {
+        InputError::NoMemory
+    }
+}
+
+/// Bytes that are asked of a source at once.
+const PIECE: usize = 8192;
+
+/// All that the source still has, where that is at most `limit` bytes; `None` where it is more.
+/// No more than `limit + 1` bytes are taken from the source.
+pub fn read_whole<S: Source>(
+    alloc: Global,
+    source: &mut S,
+    limit: usize,
+) -> Result<Option<Vec<u8>>, InputError>
+    ensures whole { IfOk result (λ found. IfSome found (λ v. IsWholeInput (S.left source.old) (S.left source.new) v.items)) }
+    ensures fits { IfOk result (λ found. IfSome found (λ v. vec_len v ≤ limit)) }
+    ensures over { IfOk result (λ found. IfNone found (IsOverLimit limit (S.left source.old))) }
+    ensures failed { IsErrOf result InputError.Failed → Rose (S.faults source.old) (S.faults source.new) }
+    ensures later { S.faults source.old ≤ S.faults source.new }
+    ensures most { TakesAtMost (limit + 1) (S.left source.old) (S.left source.new) }
+    ensures tells { StaysTold (S.left source.old) (S.left source.new) }
+{
+    let mut bytes = Vec::new(alloc);
+    let mut buffer = vec![in alloc; 0u8; PIECE]?;
+    loop {
+        let room = (limit - bytes.len()).saturating_add(1);
+        let ask = room.min(PIECE);
+        let count = read_piece(source, &mut buffer, ask, &mut bytes)?;
+        if count == 0 {
+            return Ok(Some(bytes));
+        }
+        if bytes.len() > limit {
+            return Ok(None);
+        }
+    }
+}
+
+/// Moves what one read of at most `most` bytes gives behind the bytes, and says how many.
+fn read_piece<S: Source>(
+    source: &mut S,
+    buffer: &mut [u8],
+    most: usize,
+    bytes: &mut Vec<u8>,
+) -> Result<usize, InputError>
+    requires { most ≤ length buffer.old }
+    ensures gives { IfOk result (λ n. HasGrown (S.left source.old) (S.left source.new) bytes.old.items bytes.new.items n) }
+    ensures count { IfOk result (λ n. (n ≤ most) × (vec_len bytes.new ≡ vec_len bytes.old + n)) }
+    ensures end { IfOk result (λ n. n ≡ 0 → 0 < most → IsAtEnd (S.left source.new)) }
+    ensures most { TakesAtMost most (S.left source.old) (S.left source.new) }
+    ensures failed { IsErrOf result InputError.Failed → Rose (S.faults source.old) (S.faults source.new) }
+    ensures later { S.faults source.old ≤ S.faults source.new }
+    ensures tells { StaysTold (S.left source.old) (S.left source.new) }
+{
+    let piece = &mut buffer[..most];
+    let count = source.read(piece)?;
+    bytes.extend_from_slice(&piece[..count])?;
+    Ok(count)
+}
+
+/// Writes the whole text, in as many writes as the sink needs; none for a text that is empty.
+/// Where a write fails, a front of the text has been written and nothing else.
+pub fn write_whole<K: Sink>(sink: &mut K, text: &[u8]) -> Result<(), Failed>
+    ensures ok { OnOk result (Appends (K.taken sink.old) (K.taken sink.new) text.now) }
+    ensures prefix { AppendsPrefix (K.taken sink.old) (K.taken sink.new) text.now }
+    ensures cause { HasCause (K.faults sink.old) (K.faults sink.new) result }
+    ensures tells { StaysTold (K.taken sink.old) (K.taken sink.new) }
+    ensures empty { text.now ≡ [] → IsOk result × (sink.new ≡ sink.old) }
+{
+    let mut rest = text;
+    while !rest.is_empty() {
+        let count = sink.write(rest)?;
+        rest = rest.split_at(count).1;
+    }
+    Ok(())
+}
