@@ -17,4 +17,4 @@ lone_of_many (v ∷ w ∷ ws) h = refl
 
 pub no_items_of : (vs : List Value) → is_no_items (Some (items_view vs)) ≡ (length vs == 0)
 no_items_of [] = refl
-no_items_of (v ∷ vs) = refl
+no_items_of (v ∷ vs) = grind arith

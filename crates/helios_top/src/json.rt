@@ -65,7 +65,11 @@ pub(crate) fn only(value: Option<&Value>) -> Option<&Value>
 fn lone(items: &[Value]) -> Option<&Value>
     ensures { option_map (λ v. view v.now) result ≡ lone_item (items_view items.now) }
 {
-    if items.len() == 1 { Some(&items[0]) } else { None }
+    if items.len() == 1 {
+        Some(&items[0])
+    } else {
+        None
+    }
 }
 
 /// Whether the value is this text.

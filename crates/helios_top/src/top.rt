@@ -1,6 +1,12 @@
-ghost use Rattle.std.specs.Prelude.{◌≡◌, ◌⊎◌, Some, IfOk, MatchResult};
+ghost use Rattle.std.specs.Prelude.{◌≡◌, ◌≤◌, ◌⊎◌, true, None, Some, IfOk, IfSome, MatchResult, codes};
+ghost use Rattle.std.specs.Io.KnownBytes.{Appends, IsAtEnd};
+ghost use Rattle.outside_io.specs.Causes.{Rose};
+ghost use Rattle.outside_io.specs.Whole.{AppendsPrefix, IsOverLimit};
+ghost use Rattle.helios_top.specs.declared.ending.Ending.{Ending};
 ghost use Rattle.helios_top.specs.Answer.{answer_to};
-ghost use Rattle.helios_top.specs.Run.{Ends, MayEnd, Wrote, WroteText};
+ghost use Rattle.helios_top.specs.Ending.{line, text_of};
+ghost use Rattle.helios_top.specs.Reading.{accepts};
+ghost use Rattle.helios_top.specs.Run.{Ends, IsAccepted, IsFault, IsRefused, MayEnd, ReadWhole, Wrote, WroteOneLine, WroteText};
 ghost use Rattle.helios_top.specs.Words.{command_of, texts};
 
 use crate::words::read_words;
@@ -16,9 +22,58 @@ pub fn run<S: Source, K: Sink>(
     input: &mut S,
     output: &mut K,
 ) -> Status
+    // Some ending may come, and its text was written whole, or a prefix of it with status 3.
     ensures ends { Ends (command_of (texts words.now.items)) (S.left input.old) (S.left input.new)
         (S.faults input.old) (S.faults input.new) (K.taken output.old) (K.taken output.new)
         (K.faults output.old) (K.faults output.new) result.0 }
+    ensures status { result.0 ≤ 5 }
+
+    // Words that name no command.
+    ensures usage { result.0 ≡ 1 → command_of (texts words.now.items) ≡ None }
+    ensures usage_only { command_of (texts words.now.items) ≡ None
+        → (result.0 ≡ 1) ⊎ (result.0 ≡ 3) ⊎ (result.0 ≡ 4) }
+    ensures unread { command_of (texts words.now.items) ≡ None → input.new ≡ input.old }
+
+    // Faults.
+    ensures read_fault { result.0 ≡ 2 → Rose (S.faults input.old) (S.faults input.new) }
+    ensures write_fault { result.0 ≡ 3 → Rose (K.faults output.old) (K.faults output.new) }
+    ensures prefix { result.0 ≡ 3 → (ending : Ending)
+        × MayEnd (command_of (texts words.now.items)) (S.left input.old) (S.left input.new)
+        (S.faults input.old) (S.faults input.new) ending
+        × AppendsPrefix (K.taken output.old) (K.taken output.new) (text_of ending) }
+    ensures one_line { WroteOneLine (K.taken output.old) (K.taken output.new) result.0 }
+
+    // Inputs that are refused.
+    ensures refused { result.0 ≡ 5 → IfSome (S.left input.old)
+        (λ bytes. IsRefused (command_of (texts words.now.items)) bytes) }
+    ensures refused_only { IfSome (S.left input.old)
+        (λ bytes. IsRefused (command_of (texts words.now.items)) bytes → (result.0 ≡ 5) ⊎ IsFault result.0) }
+    ensures refused_to_end { result.0 ≡ 5 → IsOverLimit INPUT_LIMIT (S.left input.old)
+        ⊎ IsAtEnd (S.left input.new) }
+
+    // Inputs that are accepted.
+    ensures to_end { result.0 ≡ 0 → IsAtEnd (S.left input.new) }
+    ensures complete { IfSome (S.left input.old) (λ bytes. IsAccepted (command_of (texts words.now.items)) bytes
+        → ¬ Rose (S.faults input.old) (S.faults input.new)
+        → (result.0 ≡ 0) ⊎ (result.0 ≡ 3) ⊎ (result.0 ≡ 4)) }
+    ensures replayed { command_of (texts words.now.items) ≡ Some Command.Replay → result.0 ≡ 0
+        → ReadWhole (S.left input.old) (S.left input.new) (λ bytes. (accepts bytes ≡ true)
+        × Appends (K.taken output.old) (K.taken output.new) (line (codes "site 0 time 0 log 0 pending 0"))) }
+{
+    run_whole(alloc, words, input, output)
+}
+
+/// The whole run, by its strong clause.
+fn run_whole<S: Source, K: Sink>(
+    alloc: Global,
+    words: &Vec<String>,
+    input: &mut S,
+    output: &mut K,
+) -> Status
+    ensures ends { Ends (command_of (texts words.now.items)) (S.left input.old) (S.left input.new)
+        (S.faults input.old) (S.faults input.new) (K.taken output.old) (K.taken output.new)
+        (K.faults output.old) (K.faults output.new) result.0 }
+    ensures unread { command_of (texts words.now.items) ≡ None → input.new ≡ input.old }
 {
     let ending = ending_of(alloc, words, input);
     write_ending(alloc, output, ending)
@@ -26,7 +81,8 @@ pub fn run<S: Source, K: Sink>(
 
 /// All that a run does before it writes.
 fn ending_of<S: Source>(alloc: Global, words: &Vec<String>, input: &mut S) -> Ending
-    ensures { MayEnd (command_of (texts words.now.items)) (S.left input.old) (S.left input.new)
+    ensures unread { command_of (texts words.now.items) ≡ None → input.new ≡ input.old }
+    ensures may_end { MayEnd (command_of (texts words.now.items)) (S.left input.old) (S.left input.new)
         (S.faults input.old) (S.faults input.new) result }
 {
     match read_words(words) {
