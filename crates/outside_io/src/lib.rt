@@ -3,9 +3,19 @@
 #![tactic(auto)]
 
 mod failed;
+mod memory_sink;
+mod memory_source;
+mod quiet;
+mod script;
+mod system;
 mod traits;
+mod unread;
 mod whole;
 
 pub use failed::Failed;
+pub use memory_sink::MemSink;
+pub use memory_source::MemSource;
+pub use quiet::{NullSink, QuietSource};
+pub use system::{StdSink, StdSource};
 pub use traits::{Sink, Source};
 pub use whole::{InputError, read_whole, write_whole};

@@ -1,0 +1,117 @@
+ghost use Rattle.std.specs.Prelude.{◌≡◌, ℕ, ◌<◌, ◌≤◌, List, None, length, IfOk, MatchResult};
+ghost use Rattle.std.specs.Io.{ReadsAtMost};
+ghost use Rattle.std.specs.Io.KnownBytes.{ReadConsumes, WriteAppends};
+ghost use Rattle.outside_io.specs.Causes.{HasCause, IsCount, StaysTold};
+ghost use Rattle.outside_io.specs.Memory.{next_fault};
+
+use crate::{Failed, Sink, Source};
+use std::io::Read;
+use std::marker::Model;
+
+/// The standard input. It does not tell what is still to come; it counts the reads that failed.
+#[derive(Drop)]
+pub struct StdSource<'a, R: Input> {
+    rt: &'a R,
+    reader: R::Reader,
+    faults: u64,
+}
+
+impl<'a, R: Input> Model for StdSource<'a, R> {
+    ghost use Rattle.std.specs.Prelude.{ℕ};
+    ghost use Rattle.outside_io.specs.Causes.{IsCount};
+
+    ghost Value = { ℕ };
+
+    ghost view = { λ s. s.faults };
+
+    ghost invariant = { λ s. IsCount s.faults };
+}
+
+impl<'a, R: Input> StdSource<'a, R> {
+    /// The standard input of this runtime, with no fault counted yet.
+    pub fn over(rt: &'a R) -> StdSource<'a, R>
+        ensures { result ≡ 0 }
+    {
+        StdSource {
+            rt,
+            reader: rt.reader(),
+            faults: 0,
+        }
+    }
+}
+
+impl<'a, R: Input> Source for StdSource<'a, R> {
+    ghost left = { λ _. None };
+
+    ghost faults = { λ s. s };
+
+    fn read(&mut self, into: &mut [u8]) -> Result<usize, Failed>
+        ensures after { MatchResult result (λ _. self.new ≡ self.old) (λ _. self.new ≡ next_fault self.old) }
+
+        ensures bound { ReadsAtMost result into.new }
+        ensures bytes { ReadConsumes None None result into.new }
+        ensures tells { StaysTold {T = List ℕ} None None }
+        ensures count { IsCount self.new }
+        ensures cause { HasCause self.old self.new result }
+    {
+        match self.reader.read(into) {
+            Ok(count) => Ok(count),
+            Err(_) => {
+                self.faults = self.faults.saturating_add(1);
+                Err(Failed)
+            }
+        }
+    }
+}
+
+/// The standard output. It does not tell what it has taken; it counts the writes that failed.
+#[derive(Drop)]
+pub struct StdSink<'a, R: Print> {
+    rt: &'a R,
+    faults: u64,
+}
+
+impl<'a, R: Print> Model for StdSink<'a, R> {
+    ghost use Rattle.std.specs.Prelude.{ℕ};
+    ghost use Rattle.outside_io.specs.Causes.{IsCount};
+
+    ghost Value = { ℕ };
+
+    ghost view = { λ s. s.faults };
+
+    ghost invariant = { λ s. IsCount s.faults };
+}
+
+impl<'a, R: Print> StdSink<'a, R> {
+    /// The standard output of this runtime, with no fault counted yet.
+    pub fn over(rt: &'a R) -> StdSink<'a, R>
+        ensures { result ≡ 0 }
+    {
+        StdSink { rt, faults: 0 }
+    }
+}
+
+impl<'a, R: Print> Sink for StdSink<'a, R> {
+    ghost taken = { λ _. None };
+
+    ghost faults = { λ s. s };
+
+    fn write(&mut self, from: &[u8]) -> Result<usize, Failed>
+        ensures after { MatchResult result (λ _. self.new ≡ self.old) (λ _. self.new ≡ next_fault self.old) }
+
+        ensures bound { IfOk result (λ n. n ≤ length from.now) }
+        ensures progress { IfOk result (λ n. 0 < length from.now → 0 < n) }
+        ensures bytes { WriteAppends None None result from.now }
+        ensures tells { StaysTold {T = List ℕ} None None }
+        ensures count { IsCount self.new }
+        ensures cause { HasCause self.old self.new result }
+    {
+        match self.rt.write_some(from) {
+            Ok(count) if count > 0 || from.is_empty() => Ok(count),
+            _ => {
+                self.faults = self.faults.saturating_add(1);
+                Err(Failed)
+            }
+        }
+    }
+}
