@@ -1,9 +1,9 @@
-use Rattle.std.proofs.Common.{◌≡◌, ◌≢◌, ℕ, ◌+◌, ◌≤◌, false, arith}
-use Rattle.std.specs.Prelude.{◌↔◌, ℤ, pos, ◌+ℤ◌, ◌-ℤ◌, ◌≤ℤ◌, nat_eq}
+use Rattle.std.proofs.Common.{◌≡◌, ℕ, ◌+◌, ◌≤◌, false, arith}
+use Rattle.std.specs.Prelude.{◌↔◌, pos, ◌+ℤ◌, ◌-ℤ◌, ◌≤ℤ◌, nat_eq}
 use Rattle.std.proofs.lemmas.Int.{ints}
 use Rattle.std.proofs.lemmas.Bool.{ne_eqb}
-use Rattle.helios_model.specs.Setting.{Setting, rtt, latency}
-use Rattle.helios_model.specs.Offset.{offset, OffsetIsTested, OffsetsAreTested, IsWithin}
+use Rattle.helios_model.specs.Setting.{rtt, latency}
+use Rattle.helios_model.specs.Offset.{OffsetsAreTested}
 
 past : (l r q time : ℕ) → (pos q +ℤ (pos l -ℤ pos r)) ≤ℤ pos time ↔ (q + l ≤ time + r)
 past l r q time = ((λ h. omega (arith, ints)), (λ h. omega (arith, ints)))

@@ -1,4 +1,4 @@
-use Rattle.std.proofs.Common.{◌≡◌, ℕ, ◌+◌, ◌-◌, ◌≤◌, List, [], ◌∷◌, length, get_or, take, drop, refl, arith}
+use Rattle.std.proofs.Common.{◌≡◌, ◌-◌, ◌≤◌, List, ◌∷◌, length, get_or, take, drop, arith}
 use Rattle.std.proofs.lemmas.Grind.{common_steps}
 
 -- a list with a first element is that element and the rest, as a pattern of a slice reads it

@@ -1,7 +1,6 @@
 use Rattle.std.specs.Prelude.{Bool, ℕ, List, ◌||◌, nat_eq}
 use Rattle.std.specs.List.{list_any}
 use Rattle.std.specs.Cmp.Lexicographic.{pointwise}
-use Rattle.helios_model.specs.declared.items.WriteItem.{WriteItem}
 use Rattle.helios_model.specs.Transaction.{Transaction}
 
 abbrev pub same_key : List ℕ → List ℕ → Bool

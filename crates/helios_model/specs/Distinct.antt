@@ -1,4 +1,4 @@
-use Rattle.std.specs.Prelude.{Bool, true, false, ℕ, List, [], ◌∷◌, ◌&&◌, nat_eq, not}
+use Rattle.std.specs.Prelude.{Bool, true, ℕ, List, [], ◌∷◌, ◌&&◌, nat_eq, not}
 use Rattle.std.specs.List.{list_any}
 use Rattle.std.specs.Cmp.Lexicographic.{pointwise}
 

@@ -7,3 +7,12 @@ pub mod Conflict
 pub mod TransactionLimits
 pub mod Setting
 pub mod Offset
+pub mod Log
+pub mod Node
+pub mod Settle
+pub mod Request
+pub mod Step
+pub mod World
+pub mod Serial
+pub mod NamedAbort
+pub mod Texts

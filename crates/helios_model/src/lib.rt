@@ -19,4 +19,5 @@ pub mod plan;
 pub mod record;
 pub mod records;
 pub mod reply;
+mod texts;
 pub mod transaction;

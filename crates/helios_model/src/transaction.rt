@@ -113,6 +113,14 @@ impl Ask {
         }
     }
 
+    /// The request of these parts, which the caller knows to keep the limits.
+    pub fn of(reads: Reads, puts: Puts) -> Ask
+        requires { IsAsk reads puts }
+        ensures { result ≡ record { reads = reads; puts = puts } }
+    {
+        Ask { reads, puts }
+    }
+
     pub fn reads(&self) -> &Reads
         ensures value { result.now ≡ self.now.reads }
         ensures limits { IsAsk self.now.reads self.now.puts }

@@ -1,0 +1,63 @@
+use Rattle.std.specs.Prelude.{◌≡◌, ◌≢◌, true, false, ℕ, List, Contains, take}
+use Rattle.helios_model.specs.declared.ids.TxnId.{TxnId}
+use Rattle.helios_model.specs.declared.ids.Version.{Version}
+use Rattle.helios_model.specs.declared.ids.Version.TheVariants.{Initial, Of}
+use Rattle.helios_model.specs.declared.items.ReadItem.{ReadItem}
+use Rattle.helios_model.specs.declared.input.Input.{Input}
+use Rattle.helios_model.specs.declared.input.Input.TheVariants.{Request}
+use Rattle.helios_model.specs.declared.record.Record.{Record}
+use Rattle.helios_model.specs.declared.record.Record.TheVariants.{Prepare, Commit}
+use Rattle.helios_model.specs.declared.reply.Reply.{Reply}
+use Rattle.helios_model.specs.declared.reply.Reply.TheVariants.{Prepared, Committed, Overwritten, Conflict, ClockSpent, PoolFull}
+use Rattle.helios_model.specs.declared.commits.CommitEvent.{CommitEvent}
+use Rattle.helios_model.specs.Transaction.{Transaction}
+use Rattle.helios_model.specs.Asking.{Asking}
+use Rattle.helios_model.specs.Conflict.{conflict, writes_key}
+use Rattle.helios_model.specs.Log.{finished}
+use Rattle.helios_model.specs.Request.{asked}
+use Rattle.helios_model.specs.Setting.{Setting}
+use Rattle.helios_model.specs.World.{World, Told, node_of}
+
+-- the version is that of a commit event that writes the key and whose Commit stands among these records
+pub record IsCommittedIn (history : List CommitEvent) (records : List Record) (key : List ℕ) (id : TxnId) : Type 0 where
+  pub event : CommitEvent
+  pub stands : Contains history event
+  pub named : event.prepare.id ≡ id
+  pub writes : writes_key event.prepare key ≡ true
+  pub logged : Contains records (Commit id event.time)
+
+abbrev pub IsVersionIn : List CommitEvent → List Record → List ℕ → Version → Type 0
+IsVersionIn history records key Initial = Unit {0}
+IsVersionIn history records key (Of id) = IsCommittedIn history records key id
+
+-- the request reads the key at another version, and the named one is committed
+pub record IsOverwritten (history : List CommitEvent) (records : List Record) (ask : Asking) (key : List ℕ) (version : Version) : Type 0 where
+  pub read : ReadItem
+  pub asked : Contains ask.reads read
+  pub at_key : read.key ≡ key
+  pub other : read.version ≢ version
+  pub committed : IsVersionIn history records key version
+
+-- an unfinished transaction among these records conflicts with what is asked
+pub record IsConflict (records : List Record) (ask : Asking) (id : TxnId) : Type 0 where
+  pub other : Transaction
+  pub named : other.id ≡ id
+  pub logged : Contains records (Prepare other)
+  pub open_then : finished records id ≡ false
+  pub conflicts : conflict (asked records id ask) other ≡ true
+
+-- a refusal of a request names what stood in its way among the first records of the log
+abbrev pub IsNamed : List CommitEvent → List Record → Asking → Reply → Type 0
+IsNamed history records ask (Prepared id) = Unit {0}
+IsNamed history records ask (Committed id) = Unit {0}
+IsNamed history records ask (Overwritten key version) = IsOverwritten history records ask key version
+IsNamed history records ask (Conflict id) = IsConflict records ask id
+IsNamed history records ask ClockSpent = Unit {0}
+IsNamed history records ask PoolFull = Unit {0}
+
+abbrev pub IsNamedTo : List CommitEvent → List Record → Input → Reply → Type 0
+IsNamedTo history records (Request ask) reply = IsNamed history records ask reply
+
+-- a released reply names what stood in the way among the records that the site's log had just before the input
+abbrev pub ToldIsNamed : Setting → World → Told → Type 0
+ToldIsNamed plan w told = IsNamedTo w.history (take told.log_length (node_of plan w told.site).log) told.input told.reply
