@@ -1,13 +1,11 @@
-// A library with one function.
+// Replays a schedule of batches at the sites of a cluster, each site with its whole log as a plain list.
+// The layer above uses `replay`: its report is that of the world which the steps reach by the rules of the node.
 #![tactic(auto)]
 
-ghost use Rattle.std.specs.Prelude.{◌≡◌};
-ghost use Rattle.schedule_replay.specs.Echo.{echo_of};
-
-// The `ensures` clause is the contract: what `echo` returns is `echo_of` of its argument, a definition
-// in `specs/Echo.antt`, which a caller's clause can cite too.
-pub fn echo(x: usize) -> usize
-    ensures { result ≡ echo_of x }
-{
-    x
-}
+pub mod input_lists;
+pub mod inputs;
+pub mod planned;
+pub mod reads;
+pub mod schedule;
+pub mod step_lists;
+pub mod steps;

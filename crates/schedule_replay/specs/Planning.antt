@@ -1,0 +1,42 @@
+use Rattle.std.specs.Prelude.{ℕ, List, map, fold}
+use Rattle.helios_model.specs.declared.ids.Version.{Version}
+use Rattle.helios_model.specs.declared.items.ReadItem.{ReadItem}
+use Rattle.helios_model.specs.declared.input.Entry.{Entry}
+use Rattle.helios_model.specs.declared.input.Input.TheVariants as Inputs
+use Rattle.helios_model.specs.declared.record.Record.{Record}
+use Rattle.helios_model.specs.Setting.{Setting}
+use Rattle.helios_model.specs.Log.{current}
+use Rattle.helios_model.specs.World.{World, Event, Batch, Done, happens, node_of}
+use Rattle.schedule_replay.specs.declared.reads.PlannedVersion.{PlannedVersion}
+use Rattle.schedule_replay.specs.declared.reads.PlannedVersion.TheVariants.{At, Current}
+use Rattle.schedule_replay.specs.declared.reads.PlannedRead.{PlannedRead}
+use Rattle.schedule_replay.specs.declared.inputs.Planned.{Planned}
+use Rattle.schedule_replay.specs.declared.inputs.Planned.TheVariants.{Request}
+use Rattle.schedule_replay.specs.declared.steps.Step.{Step}
+use Rattle.schedule_replay.specs.declared.steps.Step.TheVariants as Steps
+
+-- the version that is meant, at a site with this log
+abbrev pub version_for : List Record → List ℕ → PlannedVersion → Version
+version_for log key (At version) = version
+version_for log key Current = current log key
+
+abbrev pub read_for : List Record → PlannedRead → ReadItem
+read_for log r = record { key = r.key; version = version_for log r.key r.version }
+
+-- what is asked of a site with this log as the batch begins
+abbrev pub entry_for : List Record → Planned → Entry
+entry_for log (Request at reads puts) = record { reading = at; input = Inputs.Request (record { reads = map (read_for log) reads; puts = puts }) }
+
+abbrev pub entries_for : List Record → List Planned → List Entry
+entries_for log inputs = map (entry_for log) inputs
+
+-- the step of the world that a planned step is
+abbrev pub event_for : Setting → World → Step → Event
+event_for plan w (Steps.Batch site inputs) = Batch site (entries_for (node_of plan w site).log inputs) Done
+
+abbrev pub after_step : Setting → World → Step → World
+after_step plan w s = happens plan w (event_for plan w s)
+
+-- the world that the steps reach, one after the other
+abbrev pub after_steps : Setting → World → List Step → World
+after_steps plan w steps = fold (after_step plan) w steps

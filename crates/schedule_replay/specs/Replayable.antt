@@ -1,0 +1,54 @@
+use Rattle.std.specs.Prelude.{◌≡◌, ℕ, ◌<◌, ◌≤◌, List, length, All, IsTrue}
+use Rattle.helios_model.specs.declared.ids.Version.{Version}
+use Rattle.helios_model.specs.declared.ids.Version.TheVariants.{Initial, Of}
+use Rattle.helios_model.specs.declared.items.PutItem.{PutItem}
+use Rattle.helios_model.specs.Limits.{most_items, last_time}
+use Rattle.helios_model.specs.Distinct.{all_differ}
+use Rattle.helios_model.specs.Setting.{Setting, IsAccepted, count_of}
+use Rattle.schedule_replay.specs.declared.reads.PlannedVersion.{PlannedVersion}
+use Rattle.schedule_replay.specs.declared.reads.PlannedVersion.TheVariants.{At, Current}
+use Rattle.schedule_replay.specs.declared.reads.PlannedRead.{PlannedRead}
+use Rattle.schedule_replay.specs.declared.inputs.Planned.{Planned}
+use Rattle.schedule_replay.specs.declared.inputs.Planned.TheVariants.{Request}
+use Rattle.schedule_replay.specs.declared.steps.Step.{Step}
+use Rattle.schedule_replay.specs.declared.steps.Step.TheVariants.{Batch}
+
+-- the most steps of a schedule
+abbrev pub most_steps : ℕ
+most_steps = 100000
+
+-- a version that a text can name: an id has a time from 1 to the last
+abbrev pub IsVersionText : Version → Type 0
+IsVersionText Initial = Unit {0}
+IsVersionText (Of id) = (1 ≤ id.time) × (id.time ≤ last_time)
+
+-- a read of a given version
+abbrev pub IsGiven : PlannedVersion → Type 0
+IsGiven (At version) = IsVersionText version
+IsGiven Current = ⊥
+
+-- a request within the limits of a transaction, each of whose reads gives its version
+pub record IsPlannedRequest (reads : List PlannedRead) (puts : List PutItem) : Type 0 where
+  pub few_reads : length reads ≤ most_items
+  pub few_puts : length puts ≤ most_items
+  pub reads_differ : IsTrue (all_differ (λ r. r.key) reads)
+  pub puts_differ : IsTrue (all_differ (λ p. p.key) puts)
+  pub given : All (λ r. IsGiven r.version) reads
+
+abbrev pub IsPlannedInput : Planned → Type 0
+IsPlannedInput (Request at reads puts) = IsPlannedRequest reads puts
+
+-- a batch of one request at a site of the plan
+pub record IsPlannedBatch (plan : Setting) (site : ℕ) (inputs : List Planned) : Type 0 where
+  pub here : site < count_of plan
+  pub one : length inputs ≡ 1
+  pub each : All IsPlannedInput inputs
+
+abbrev pub IsPlannedStep : Setting → Step → Type 0
+IsPlannedStep plan (Batch site inputs) = IsPlannedBatch plan site inputs
+
+-- a schedule that a replay takes: an accepted plan, and at most so many steps, each of this form
+pub record IsReplayable (plan : Setting) (steps : List Step) : Type 0 where
+  pub accepted : IsAccepted plan
+  pub few : length steps ≤ most_steps
+  pub each : All (IsPlannedStep plan) steps

@@ -1,0 +1,17 @@
+use helios_model::ids::Version;
+use helios_model::keys::Key;
+
+/// The version that a planned request reads.
+#[derive(Clone, Copy, Debug, PartialEq, Eq)]
+pub enum PlannedVersion {
+    At(Version),
+    /// The version that is current at the site when the batch begins.
+    Current,
+}
+
+/// A key that a planned request reads, and the version that it reads.
+#[derive(Debug, Drop)]
+pub struct PlannedRead {
+    pub key: Key,
+    pub version: PlannedVersion,
+}
