@@ -1,8 +1,9 @@
 -- What the strong clause of a run, that some ending may come and was written, says of each status.
-use Rattle.std.proofs.Common.{◌≡◌, ◌≢◌, ℕ, ◌<◌, ◌≤◌, ◌⊎◌, inl, inr, Bool, true, false, List, [], ◌++◌, if◌then◌else◌, Option, Some, None, IsSome, IfSome, length, codes, refl, sym, ◌∙◌, ap, subst, arith, append-nil}
+use Rattle.std.proofs.Common.{◌≡◌, ◌≢◌, ℕ, ◌<◌, ◌≤◌, ◌⊎◌, inl, inr, Bool, true, false, List, [], ◌++◌, if◌then◌else◌, Option, Some, None, IsSome, IfSome, IsSomeAnd, length, codes, refl, sym, ◌∙◌, ap, subst, arith, append-nil}
 use Rattle.std.specs.Io.KnownBytes.{Appends, Consumes, IsAtEnd}
 use Rattle.outside_io.specs.Causes.{Rose}
 use Rattle.outside_io.specs.Whole.{AppendsPrefix, IsOverLimit, IsWholeInput}
+use Rattle.schedule_replay.specs.declared.schedule.Schedule.{Schedule}
 use Rattle.helios_top.specs.declared.TheConstants.{INPUT_LIMIT}
 use Rattle.helios_top.specs.declared.words.Command.{Command}
 use Rattle.helios_top.specs.declared.words.Command.TheVariants.{Replay}
@@ -12,9 +13,9 @@ use Rattle.helios_top.specs.declared.ending.Answer.{Answer}
 use Rattle.helios_top.specs.declared.ending.Answer.TheVariants.{Printed, Refused}
 use Rattle.helios_top.specs.declared.ending.Ending.{Ending}
 use Rattle.helios_top.specs.declared.ending.Ending.TheVariants.{Usage, ReadFault, NoMemory, TooLarge, Answered}
-use Rattle.helios_top.specs.Answer.{answer_to, replay_answer}
+use Rattle.helios_top.specs.Answer.{answer_to, replay_answer, report_for}
 use Rattle.helios_top.specs.Ending.{answer_status, answer_text, line, refusal_text, status_of, text_of}
-use Rattle.helios_top.specs.Reading.{accepts}
+use Rattle.helios_top.specs.Reading.{schedule_of}
 use Rattle.helios_top.specs.Run.{Answers, Ends, IsAccepted, IsFault, IsOfForm, IsOtherForm, IsRefused, IsTooLarge, MayEnd, ReadWhole, Wrote, WroteOneLine}
 
 -- an answer prints or refuses
@@ -101,31 +102,35 @@ printed_text text = refl
 
 -- each command prints exactly where the input is of its form
 
-printed_by : (test : Bool) (due text : List ℕ) → (if test then Printed due else Refused Unbuilt) ≡ Printed text → (test ≡ true) × (text ≡ due)
-printed_by true due text e = (refl, cc)
-printed_by false due text e = cc
+replay_prints : (said : Option Schedule) (text : List ℕ) → replay_answer said ≡ Printed text → IsSomeAnd said (λ schedule. text ≡ report_for schedule)
+replay_prints None text e = cc
+replay_prints (Some schedule) text e = cc
 
-refused_by : (test : Bool) (due : List ℕ) (refusal : Refusal) → (if test then Printed due else Refused Unbuilt) ≡ Refused refusal → test ≡ false
-refused_by true due refusal e = cc
-refused_by false due refusal e = refl
+replay_refuses : (said : Option Schedule) (refusal : Refusal) → replay_answer said ≡ Refused refusal → said ≡ None
+replay_refuses None refusal e = refl
+replay_refuses (Some schedule) refusal e = cc
 
-replay_prints : (bytes text : List ℕ) → replay_answer bytes ≡ Printed text → (accepts bytes ≡ true) × (text ≡ line (codes "site 0 time 0 log 0 pending 0"))
-unfolding replay_answer
-replay_prints bytes text e = printed_by (accepts bytes) _ text e
+replay_wrote : (taken taken' : Option (List ℕ)) (said : Option Schedule) (text : List ℕ) → Appends taken taken' text → replay_answer said ≡ Printed text
+    → IsSomeAnd said (λ schedule. Appends taken taken' (report_for schedule))
+replay_wrote taken taken' None text wrote e = cc
+replay_wrote taken taken' (Some schedule) text wrote e = let same : text ≡ report_for schedule = cc in subst (Appends taken taken') same wrote
 
-replay_refuses : (bytes : List ℕ) (refusal : Refusal) → replay_answer bytes ≡ Refused refusal → accepts bytes ≡ false
-unfolding replay_answer
-replay_refuses bytes refusal e = refused_by (accepts bytes) _ refusal e
+some_from_and : {T : Type 0} (P : T → Type 0) (o : Option T) → IsSomeAnd o P → IsSome o
+some_from_and P None h = absurd h
+some_from_and P (Some x) h = refl
 
 printed_form : (command : Command) (bytes text : List ℕ) → answer_to command bytes ≡ Printed text → IsOfForm command bytes
-printed_form Replay bytes text e = (replay_prints bytes text e).0
+printed_form Replay bytes text e = some_from_and _ (schedule_of bytes) (replay_prints (schedule_of bytes) text e)
 
 refused_form : (command : Command) (bytes : List ℕ) (refusal : Refusal) → answer_to command bytes ≡ Refused refusal → IsOtherForm command bytes
-refused_form Replay bytes refusal e = replay_refuses bytes refusal e
+refused_form Replay bytes refusal e = replay_refuses (schedule_of bytes) refusal e
+
+no_schedule : (said : Option Schedule) → IsSome said → said ≡ None → ⊥
+no_schedule said some none = let h : IsSome {T = Schedule} None = subst IsSome none some in cc
 
 -- no input is of a command's form and of another
 one_form : (command : Command) (bytes : List ℕ) → IsOfForm command bytes → IsOtherForm command bytes → ⊥
-one_form Replay bytes accepted refused = cc
+one_form Replay bytes accepted refused = no_schedule (schedule_of bytes) accepted refused
 
 -- what is told
 if_told : (left : Option (List ℕ)) (P : List ℕ → Type 0) → ((bytes : List ℕ) → left ≡ Some bytes → P bytes) → IfSome left P
@@ -285,11 +290,10 @@ module _ {named : Option Command} {left left' : Option (List ℕ)} {reads reads'
   printed_to_end h e = (printed_may h e).1.0.is_whole.ended
 
   pub replayed : Ends named left left' reads reads' taken taken' writes writes' status → named ≡ Some Replay → status ≡ 0
-      → ReadWhole left left' (λ bytes. (accepts bytes ≡ true) × Appends taken taken' (line (codes "site 0 time 0 log 0 pending 0")))
+      → ReadWhole left left' (λ bytes. IsSomeAnd (schedule_of bytes) (λ schedule. Appends taken taken' (report_for schedule)))
   replayed h replay e =
       let p = printed_may h e in
       let a : Answers named left left' (Printed p.0) = p.1.0 in
       let is : a.command ≡ Replay = cc (a.is_named, replay) in
-      let made : replay_answer a.bytes ≡ Printed p.0 = ap (λ (command : Command). answer_to command a.bytes) (sym is) ∙ a.is_answer in
-      let said = replay_prints a.bytes p.0 made in
-      record { bytes = a.bytes; is_whole = a.is_whole; fits = a.fits; holds = (said.0, subst (Appends taken taken') said.1 p.1.1) }
+      let made : replay_answer (schedule_of a.bytes) ≡ Printed p.0 = ap (λ (command : Command). answer_to command a.bytes) (sym is) ∙ a.is_answer in
+      record { bytes = a.bytes; is_whole = a.is_whole; fits = a.fits; holds = replay_wrote taken taken' (schedule_of a.bytes) p.0 p.1.1 made }

@@ -21,11 +21,10 @@ abbrev pub Gives : {T : Type 0} → Result T Unread → Option T → Type 0
 Gives (Ok x) said = said ≡ Some x
 Gives (Err unread) said = Fails unread said
 
--- a step after a value that is there
+-- what comes of a value that is there
 infixl 10 ◌>>=◌
 abbrev pub ◌>>=◌ : {A B : Type 0} → Option A → (A → Option B) → Option B
-None >>= f = None
-(Some x) >>= f = f x
+found >>= next = option_and_then next found
 
 -- the item, where there is no other
 abbrev pub lone_item : Items → Option Data

@@ -1,7 +1,10 @@
--- Which texts are schedules that `replay` takes.
-use Rattle.std.specs.Prelude.{ℕ, Bool, true, false, ◌&&◌, ◌==◌, ℤ, pos, negsuc, List, Option, Some, None, is_some, option_and_then, codes, if◌then◌else◌}
+-- What a text says as a schedule that `replay` takes.
+use Rattle.std.specs.Prelude.{ℕ, Bool, true, false, ◌&&◌, ◌==◌, ℤ, pos, negsuc, List, [], ◌∷◌, Option, Some, None, option_and_then, codes, if◌then◌else◌}
 use Rattle.serde_json.specs.Data.{Data, Items, item, no_items}
 use Rattle.serde_json.specs.Find.{as_array, as_i64, as_number, get}
+use Rattle.helios_model.specs.Setting.{Setting}
+use Rattle.schedule_replay.specs.declared.steps.Step.{Step}
+use Rattle.schedule_replay.specs.declared.schedule.Schedule.{Schedule}
 use Rattle.helios_top.specs.Json.{◌>>=◌, is_text, json_of, only, whole_number}
 
 -- whether what was found is this number
@@ -19,7 +22,7 @@ is_same_zero None = false
 is_same_zero (Some (pos n)) = n == 0
 is_same_zero (Some (negsuc n)) = false
 
--- whether the value is the number zero of a place where a number may be negative
+-- whether the value is zero, in a place where a number may be negative
 abbrev pub is_signed_zero : Option Data → Bool
 is_signed_zero value = is_same_zero (option_and_then (λ d. option_and_then as_i64 (as_number d)) value)
 
@@ -34,26 +37,26 @@ is_one_site_plan d =
     && is_number 0 (get (codes "total") d)
     && is_number 1 (get (codes "version") d)
 
--- whether an array has no items
-abbrev pub is_no_items : Option Items → Bool
-is_no_items None = false
-is_no_items (Some no_items) = true
-is_no_items (Some (item d ds)) = false
+-- the plan of the one site `A`, whose round trip and latency are 0
+abbrev pub one_site : Setting
+one_site = record { names = codes "A" ∷ []; trips = 0 ∷ []; latencies = 0 ∷ [] }
 
--- whether what was found is the plan of one site
-abbrev pub is_found_plan : Option Data → Bool
-is_found_plan None = false
-is_found_plan (Some d) = is_one_site_plan d
+-- the plan that a value says: no other is built
+unfoldable pub plan_at : Data → Option Setting
+plan_at d = if is_one_site_plan d then Some one_site else None
 
--- whether the value is a schedule of one site without steps
-unfoldable pub is_schedule : Data → Bool
-is_schedule d = is_found_plan (get (codes "plan") d) && is_no_items (option_and_then as_array (get (codes "steps") d))
+-- the steps that an array says: no step is built
+abbrev pub steps_from : Items → Option (List Step)
+steps_from no_items = Some []
+steps_from (item d ds) = None
 
--- whether what was found is a schedule
-abbrev pub is_found_schedule : Option Data → Bool
-is_found_schedule None = false
-is_found_schedule (Some d) = is_schedule d
+-- the schedule that a value says
+unfoldable pub schedule_at : Data → Option Schedule
+schedule_at d = do
+  plan ← get (codes "plan") d >>= plan_at
+  steps ← (get (codes "steps") d >>= as_array) >>= steps_from
+  Some (record { plan = plan; steps = steps })
 
--- whether a text is a schedule
-unfoldable pub accepts : List ℕ → Bool
-accepts bytes = is_found_schedule (json_of bytes)
+-- the schedule that a text says
+unfoldable pub schedule_of : List ℕ → Option Schedule
+schedule_of text = json_of text >>= schedule_at

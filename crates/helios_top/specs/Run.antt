@@ -1,5 +1,5 @@
 -- When a run may end in each way, and what it writes.
-use Rattle.std.specs.Prelude.{◌≡◌, ℕ, ◌<◌, ◌≤◌, ◌⊎◌, Bool, true, false, List, ◌++◌, Option, Some, None, IsSome, length, codes}
+use Rattle.std.specs.Prelude.{◌≡◌, ℕ, ◌<◌, ◌≤◌, ◌⊎◌, List, ◌++◌, Option, Some, None, IsSome, length, codes}
 use Rattle.std.specs.Io.KnownBytes.{Appends}
 use Rattle.outside_io.specs.Causes.{Rose}
 use Rattle.outside_io.specs.Whole.{AppendsPrefix, IsOverLimit, IsWholeInput}
@@ -11,7 +11,7 @@ use Rattle.helios_top.specs.declared.ending.Ending.{Ending}
 use Rattle.helios_top.specs.declared.ending.Ending.TheVariants.{Usage, ReadFault, NoMemory, TooLarge, Answered}
 use Rattle.helios_top.specs.Answer.{answer_to}
 use Rattle.helios_top.specs.Ending.{line, status_of, text_of}
-use Rattle.helios_top.specs.Reading.{accepts}
+use Rattle.helios_top.specs.Reading.{schedule_of}
 
 -- the words name a command, its input was read whole and to its end and is within the limit, and this is the answer to it
 pub record Answers (named : Option Command) (left left' : Option (List ℕ)) (answer : Answer) : Type 0 where
@@ -68,7 +68,7 @@ IsTooLarge bytes = INPUT_LIMIT < length bytes
 
 -- the input is not of the form that the command accepts
 abbrev pub IsOtherForm : Command → List ℕ → Type 0
-IsOtherForm Replay bytes = accepts bytes ≡ false
+IsOtherForm Replay bytes = schedule_of bytes ≡ None
 
 -- the words name a command, which refuses this input
 abbrev pub IsRefused : Option Command → List ℕ → Type 0
@@ -77,7 +77,7 @@ IsRefused (Some command) bytes = IsTooLarge bytes ⊎ IsOtherForm command bytes
 
 -- the input is of the form that the command accepts
 abbrev pub IsOfForm : Command → List ℕ → Type 0
-IsOfForm Replay bytes = accepts bytes ≡ true
+IsOfForm Replay bytes = IsSome (schedule_of bytes)
 
 -- the words name a command, which accepts this input
 abbrev pub IsAccepted : Option Command → List ℕ → Type 0

@@ -6,6 +6,8 @@ mod ending;
 mod json;
 mod reading;
 mod replay;
+#[cfg(test)]
+mod tests;
 mod top;
 mod words;
 

@@ -1,35 +1,55 @@
-ghost use Rattle.std.specs.Prelude.{◌≡◌, Bool, IfOk, Option, Result, option_and_then, option_map};
-ghost use Rattle.serde_json.specs.View.{view};
+ghost use Rattle.std.specs.Prelude.{◌≡◌, Option, IfOk, option_and_then, option_map};
+ghost use Rattle.serde_json.specs.View.{items_view, view};
 ghost use Rattle.serde_json.specs.Find.{as_array};
-ghost use Rattle.helios_top.specs.Reading.{accepts, is_found_plan, is_no_items, is_number, is_one_site_plan, is_schedule, is_signed_zero};
+ghost use Rattle.schedule_replay.specs.Replayable.{IsReplayable};
+ghost use Rattle.helios_top.specs.Json.{Gives};
+ghost use Rattle.helios_top.specs.Reading.{is_number, is_one_site_plan, is_signed_zero, one_site, plan_at, schedule_at, schedule_of, steps_from};
 
 use crate::json::{Unread, is_text, only, value_of};
+use helios_model::names::{Name, Names};
+use helios_model::numbers::Times;
+use helios_model::plan::Plan;
+use schedule_replay::schedule::Schedule;
+use schedule_replay::step_lists::StepList;
+use schedule_replay::steps::Step;
 use serde_json::Value;
-use std::alloc::Global;
+use std::alloc::{AllocError, Global};
 
-/// Whether the text is a schedule of one site without steps.
-#[tactic(auto, unfolding(crate::specs::Reading::accepts))]
-pub(crate) fn read_schedule(alloc: Global, text: &[u8]) -> Result<bool, Unread>
-    ensures ok { IfOk result (λ found. found ≡ accepts text.now) }
-    ensures unbuilt { result ≡ Result.Err Unread.Unbuilt → accepts text.now ≡ Bool.false }
+/// The schedule that the text is.
+#[tactic(auto, unfolding(crate::specs::Reading::schedule_of))]
+pub(crate) fn read_schedule(alloc: Global, text: &[u8]) -> Result<Schedule, Unread>
+    ensures { Gives result (schedule_of text.now) }
 {
     let value = value_of(alloc, text)?;
-    Ok(is_schedule(&value))
+    schedule_from(alloc, &value)
 }
 
-#[tactic(auto, unfolding(crate::specs::Reading::is_schedule))]
-fn is_schedule(value: &Value) -> bool
-    ensures { result ≡ is_schedule (view value.now) }
+#[tactic(auto, unfolding(crate::specs::Reading::schedule_at))]
+fn schedule_from(alloc: Global, value: &Value) -> Result<Schedule, Unread>
+    ensures { Gives result (schedule_at (view value.now)) }
 {
-    is_found_plan(value.get("plan")) && has_no_items(value.get("steps"))
+    let plan = plan_from(alloc, value.get("plan"))?;
+    let steps = steps_in(alloc, value.get("steps").and_then(Value::as_array))?;
+    Ok(Schedule { plan, steps })
 }
 
-fn is_found_plan(value: Option<&Value>) -> bool
-    ensures { result ≡ is_found_plan (option_map (λ v. view v.now) value.entry) }
+fn plan_from(alloc: Global, value: Option<&Value>) -> Result<Plan, Unread>
+    ensures { Gives result (option_and_then plan_at (option_map (λ v. view v.now) value.entry)) }
 {
     match value {
-        Some(plan) => is_one_site_plan(plan),
-        None => false,
+        Some(plan) => plan_of(alloc, plan),
+        None => Err(Unread::Unbuilt),
+    }
+}
+
+#[tactic(auto, unfolding(crate::specs::Reading::plan_at))]
+fn plan_of(alloc: Global, plan: &Value) -> Result<Plan, Unread>
+    ensures { Gives result (plan_at (view plan.now)) }
+{
+    if is_one_site_plan(plan) {
+        Ok(one_site(alloc)?)
+    } else {
+        Err(Unread::Unbuilt)
     }
 }
 
@@ -57,7 +77,7 @@ fn is_number(value: Option<&Value>, number: u64) -> bool
     }
 }
 
-/// Whether the value is zero, where a number may be negative.
+/// Whether the value is zero, in a place where a number may be negative.
 fn is_signed_zero(value: Option<&Value>) -> bool
     ensures { result ≡ is_signed_zero (option_map (λ v. view v.now) value.entry) }
 {
@@ -67,13 +87,36 @@ fn is_signed_zero(value: Option<&Value>) -> bool
     }
 }
 
-/// Whether the value is an array without items.
-#[tactic(auto, using(crate::proofs::Items::no_items_of))]
-fn has_no_items(value: Option<&Value>) -> bool
-    ensures { result ≡ is_no_items (option_and_then as_array (option_map (λ v. view v.now) value.entry)) }
+/// The plan of the one site `A`, whose round trip and latency are 0.
+#[tactic(auto, using(crate::proofs::OneSite::one_site_is_plan))]
+fn one_site(alloc: Global) -> Result<Plan, AllocError>
+    ensures { IfOk result (λ plan. plan ≡ one_site) }
 {
-    match value.and_then(Value::as_array) {
-        Some(items) => items.is_empty(),
-        None => false,
+    let name = Name::new(String::from_str(alloc, "A")?);
+    let names = Names::new(vec![in alloc; name]?);
+    Ok(Plan::new(
+        names,
+        Times::new(vec![in alloc; 0]?),
+        Times::new(vec![in alloc; 0]?),
+    ))
+}
+
+fn steps_in(alloc: Global, array: Option<&Vec<Value>>) -> Result<StepList, Unread>
+    ensures { Gives result (option_and_then steps_from (option_map (λ v. items_view v.now.items) array.entry)) }
+{
+    match array {
+        Some(items) => steps_of(alloc, items.as_slice()),
+        None => Err(Unread::Unbuilt),
+    }
+}
+
+#[tactic(auto, using(crate::proofs::Items::no_steps_from, crate::proofs::Items::some_steps_from))]
+fn steps_of(alloc: Global, items: &[Value]) -> Result<StepList, Unread>
+    ensures { Gives result (steps_from (items_view items.now)) }
+{
+    if items.is_empty() {
+        Ok(StepList::new(Vec::new(alloc)))
+    } else {
+        Err(Unread::Unbuilt)
     }
 }

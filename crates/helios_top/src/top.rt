@@ -1,11 +1,11 @@
-ghost use Rattle.std.specs.Prelude.{◌≡◌, ◌≤◌, ◌⊎◌, true, None, Some, IfOk, IfSome, MatchResult, codes};
+ghost use Rattle.std.specs.Prelude.{◌≡◌, ◌≤◌, ◌⊎◌, None, Some, IfOk, IfSome, IsSomeAnd, MatchResult};
 ghost use Rattle.std.specs.Io.KnownBytes.{Appends, IsAtEnd};
 ghost use Rattle.outside_io.specs.Causes.{Rose};
 ghost use Rattle.outside_io.specs.Whole.{AppendsPrefix, IsOverLimit};
 ghost use Rattle.helios_top.specs.declared.ending.Ending.{Ending};
-ghost use Rattle.helios_top.specs.Answer.{answer_to};
-ghost use Rattle.helios_top.specs.Ending.{line, text_of};
-ghost use Rattle.helios_top.specs.Reading.{accepts};
+ghost use Rattle.helios_top.specs.Answer.{answer_to, report_for};
+ghost use Rattle.helios_top.specs.Ending.{text_of};
+ghost use Rattle.helios_top.specs.Reading.{schedule_of};
 ghost use Rattle.helios_top.specs.Run.{Ends, IsAccepted, IsFault, IsRefused, MayEnd, ReadWhole, Wrote, WroteOneLine, WroteText};
 ghost use Rattle.helios_top.specs.Words.{command_of, texts};
 
@@ -57,8 +57,8 @@ pub fn run<S: Source, K: Sink>(
         → ¬ Rose (S.faults input.old) (S.faults input.new)
         → (result.0 ≡ 0) ⊎ (result.0 ≡ 3) ⊎ (result.0 ≡ 4)) }
     ensures replayed { command_of (texts words.now.items) ≡ Some Command.Replay → result.0 ≡ 0
-        → ReadWhole (S.left input.old) (S.left input.new) (λ bytes. (accepts bytes ≡ true)
-        × Appends (K.taken output.old) (K.taken output.new) (line (codes "site 0 time 0 log 0 pending 0"))) }
+        → ReadWhole (S.left input.old) (S.left input.new) (λ text. IsSomeAnd (schedule_of text)
+        (λ schedule. Appends (K.taken output.old) (K.taken output.new) (report_for schedule))) }
 {
     run_whole(alloc, words, input, output)
 }
