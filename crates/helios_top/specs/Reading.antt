@@ -1,0 +1,62 @@
+-- What a text says as a schedule that `replay` takes.
+use Rattle.std.specs.Prelude.{ℕ, Bool, true, false, ◌&&◌, ◌==◌, ℤ, pos, negsuc, List, [], ◌∷◌, Option, Some, None, option_and_then, codes, if◌then◌else◌}
+use Rattle.serde_json.specs.Data.{Data, Items, item, no_items}
+use Rattle.serde_json.specs.Find.{as_array, as_i64, as_number, get}
+use Rattle.helios_model.specs.Setting.{Setting}
+use Rattle.schedule_replay.specs.declared.steps.Step.{Step}
+use Rattle.schedule_replay.specs.declared.schedule.Schedule.{Schedule}
+use Rattle.helios_top.specs.Json.{◌>>=◌, is_text, json_of, only, whole_number}
+
+-- whether what was found is this number
+abbrev pub is_same_number : ℕ → Option ℕ → Bool
+is_same_number n None = false
+is_same_number n (Some found) = found == n
+
+-- whether the value is this whole number
+abbrev pub is_number : ℕ → Option Data → Bool
+is_number n value = is_same_number n (option_and_then whole_number value)
+
+-- whether what was found is zero
+abbrev pub is_same_zero : Option ℤ → Bool
+is_same_zero None = false
+is_same_zero (Some (pos n)) = n == 0
+is_same_zero (Some (negsuc n)) = false
+
+-- whether the value is zero, in a place where a number may be negative
+abbrev pub is_signed_zero : Option Data → Bool
+is_signed_zero value = is_same_zero (option_and_then (λ d. option_and_then as_i64 (as_number d)) value)
+
+-- whether the value has, under the seven names of a plan, the values of the plan of the one site `A`
+unfoldable pub is_one_site_plan : Data → Bool
+is_one_site_plan d =
+    is_number 0 (only (get (codes "latency") d))
+    && is_text (codes "A") (only (get (codes "names") d))
+    && is_signed_zero (only (only (get (codes "offset") d)))
+    && is_number 0 (only (get (codes "pair") d))
+    && is_number 0 (only (only (get (codes "rtt") d)))
+    && is_number 0 (get (codes "total") d)
+    && is_number 1 (get (codes "version") d)
+
+-- the plan of the one site `A`, whose round trip and latency are 0
+abbrev pub one_site : Setting
+one_site = record { names = codes "A" ∷ []; trips = 0 ∷ []; latencies = 0 ∷ [] }
+
+-- the plan that a value says: no other is built
+unfoldable pub plan_at : Data → Option Setting
+plan_at d = if is_one_site_plan d then Some one_site else None
+
+-- the steps that an array says: no step is built
+abbrev pub steps_from : Items → Option (List Step)
+steps_from no_items = Some []
+steps_from (item d ds) = None
+
+-- the schedule that a value says
+unfoldable pub schedule_at : Data → Option Schedule
+schedule_at d = do
+  plan ← get (codes "plan") d >>= plan_at
+  steps ← (get (codes "steps") d >>= as_array) >>= steps_from
+  Some (record { plan = plan; steps = steps })
+
+-- the schedule that a text says
+unfoldable pub schedule_of : List ℕ → Option Schedule
+schedule_of text = json_of text >>= schedule_at

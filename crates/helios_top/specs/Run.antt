@@ -1,0 +1,85 @@
+-- When a run may end in each way, and what it writes.
+use Rattle.std.specs.Prelude.{◌≡◌, ℕ, ◌<◌, ◌≤◌, ◌⊎◌, List, ◌++◌, Option, Some, None, IsSome, length, codes}
+use Rattle.std.specs.Io.KnownBytes.{Appends}
+use Rattle.outside_io.specs.Causes.{Rose}
+use Rattle.outside_io.specs.Whole.{AppendsPrefix, IsOverLimit, IsWholeInput}
+use Rattle.helios_top.specs.declared.TheConstants.{INPUT_LIMIT}
+use Rattle.helios_top.specs.declared.words.Command.{Command}
+use Rattle.helios_top.specs.declared.words.Command.TheVariants.{Replay}
+use Rattle.helios_top.specs.declared.ending.Answer.{Answer}
+use Rattle.helios_top.specs.declared.ending.Ending.{Ending}
+use Rattle.helios_top.specs.declared.ending.Ending.TheVariants.{Usage, ReadFault, NoMemory, TooLarge, Answered}
+use Rattle.helios_top.specs.Answer.{answer_to}
+use Rattle.helios_top.specs.Ending.{line, status_of, text_of}
+use Rattle.helios_top.specs.Reading.{schedule_of}
+
+-- the words name a command, its input was read whole and to its end and is within the limit, and this is the answer to it
+pub record Answers (named : Option Command) (left left' : Option (List ℕ)) (answer : Answer) : Type 0 where
+  pub command : Command
+  pub bytes : List ℕ
+  pub is_named : named ≡ Some command
+  pub is_whole : IsWholeInput left left' bytes
+  pub fits : length bytes ≤ INPUT_LIMIT
+  pub is_answer : answer_to command bytes ≡ answer
+
+-- when a run may end so: `left` and `reads` are the bytes still to be read and the count of faults before it, `left'` and `reads'` after it
+abbrev pub MayEnd : Option Command → Option (List ℕ) → Option (List ℕ) → ℕ → ℕ → Ending → Type 0
+MayEnd named left left' reads reads' Usage = named ≡ None
+MayEnd named left left' reads reads' ReadFault = IsSome named × Rose reads reads'
+MayEnd named left left' reads reads' NoMemory = Unit {0}
+MayEnd named left left' reads reads' TooLarge = IsSome named × IsOverLimit INPUT_LIMIT left
+MayEnd named left left' reads reads' (Answered answer) = Answers named left left' answer
+
+-- the text was written whole and the status is the one that is due, or a write failed, a prefix of it was written and the status is 3
+abbrev pub WroteText : Option (List ℕ) → Option (List ℕ) → ℕ → ℕ → ℕ → ℕ → List ℕ → Type 0
+WroteText taken taken' writes writes' status due text = ((status ≡ due) × Appends taken taken' text) ⊎ ((status ≡ 3) × Rose writes writes' × AppendsPrefix taken taken' text)
+
+-- what is due for the ending was written, or a prefix of it
+abbrev pub Wrote : Option (List ℕ) → Option (List ℕ) → ℕ → ℕ → ℕ → Ending → Type 0
+Wrote taken taken' writes writes' status ending = WroteText taken taken' writes writes' status (status_of ending) (text_of ending)
+
+-- some ending may come, and what is due for it was written
+pub record Ends (named : Option Command) (left left' : Option (List ℕ)) (reads reads' : ℕ) (taken taken' : Option (List ℕ)) (writes writes' status : ℕ) : Type 0 where
+  pub ending : Ending
+  pub may_end : MayEnd named left left' reads reads' ending
+  pub wrote : Wrote taken taken' writes writes' status ending
+
+-- at each status but 0 and 3, one line was written and nothing else
+pub record WroteOneLine (taken taken' : Option (List ℕ)) (status : ℕ) : Type 0 where
+  pub usage : status ≡ 1 → Appends taken taken' (line (codes "usage: helios COMMAND [WORDS]"))
+  pub read_fault : status ≡ 2 → Appends taken taken' (line (codes "fault read"))
+  pub no_memory : status ≡ 4 → Appends taken taken' (line (codes "fault memory"))
+  pub refused : status ≡ 5 → (name : List ℕ) × Appends taken taken' (line (codes "refused " ++ name))
+
+-- the whole input was read, to its end, and is within the limit, and this holds of its bytes
+pub record ReadWhole (left left' : Option (List ℕ)) (Holds : List ℕ → Type 0) : Type 0 where
+  pub bytes : List ℕ
+  pub is_whole : IsWholeInput left left' bytes
+  pub fits : length bytes ≤ INPUT_LIMIT
+  pub holds : Holds bytes
+
+-- the status of a fault, which may come in the place of any other
+abbrev pub IsFault : ℕ → Type 0
+IsFault status = (status ≡ 2) ⊎ (status ≡ 3) ⊎ (status ≡ 4)
+
+-- the input has more bytes than a command reads
+abbrev pub IsTooLarge : List ℕ → Type 0
+IsTooLarge bytes = INPUT_LIMIT < length bytes
+
+-- the input is not of the form that the command accepts
+abbrev pub IsOtherForm : Command → List ℕ → Type 0
+IsOtherForm Replay bytes = schedule_of bytes ≡ None
+
+-- the words name a command, which refuses this input
+abbrev pub IsRefused : Option Command → List ℕ → Type 0
+IsRefused None bytes = ⊥
+IsRefused (Some command) bytes = IsTooLarge bytes ⊎ IsOtherForm command bytes
+
+-- the input is of the form that the command accepts
+abbrev pub IsOfForm : Command → List ℕ → Type 0
+IsOfForm Replay bytes = IsSome (schedule_of bytes)
+
+-- the words name a command, which accepts this input
+abbrev pub IsAccepted : Option Command → List ℕ → Type 0
+IsAccepted None bytes = ⊥
+IsAccepted (Some command) bytes = (length bytes ≤ INPUT_LIMIT) × IsOfForm command bytes

@@ -1,0 +1,108 @@
+ghost use Rattle.std.specs.Prelude.{◌≡◌, Some, IfOk, string_bytes};
+ghost use Rattle.helios_top.specs.Ending.{answer_status, answer_text, refusal_text, status_of, text_of};
+
+use helios_model::numbers::Bytes;
+use std::alloc::{AllocError, Global};
+use std::fmt;
+
+/// The program's exit status.
+#[derive(Clone, Copy, Debug, PartialEq, Eq)]
+pub struct Status(pub u8);
+
+/// Why an input that was read is not accepted.
+#[derive(Clone, Copy, Debug, PartialEq, Eq)]
+pub enum Refusal {
+    /// The input is in no form that is built.
+    Unbuilt,
+}
+
+/// What a command comes to over an input that it read whole.
+#[derive(Debug, Drop)]
+pub enum Answer {
+    /// The text that the command prints.
+    Printed(Bytes),
+    /// The input is not accepted.
+    Refused(Refusal),
+}
+
+/// How a run ends.
+#[derive(Debug, Drop)]
+pub enum Ending {
+    /// The words name no command.
+    Usage,
+    /// The input could not be read.
+    ReadFault,
+    /// There was no memory.
+    NoMemory,
+    /// The input has more bytes than a command reads.
+    TooLarge,
+    /// The input was read, and this is the answer to it.
+    Answered(Answer),
+}
+
+impl fmt::Display for Refusal {
+    ghost output = { λ refusal. Some (refusal_text refusal) };
+
+    fn fmt<W: fmt::Write>(&self, f: &mut fmt::Formatter<W>) -> fmt::Result {
+        match self {
+            Refusal::Unbuilt => write!(f, "unbuilt"),
+        }
+    }
+}
+
+impl Answer {
+    /// The status that is due for this answer.
+    fn status(&self) -> u8
+        ensures { result ≡ answer_status self.now }
+    {
+        match self {
+            Answer::Printed(_) => 0,
+            Answer::Refused(_) => 5,
+        }
+    }
+
+    /// The whole text that is due for this answer.
+    fn into_text(self, alloc: Global) -> Result<Bytes, AllocError>
+        ensures { IfOk result (λ text. text ≡ answer_text self) }
+    {
+        match self {
+            Answer::Printed(text) => Ok(text),
+            Answer::Refused(refusal) => Ok(text_from(format!(in alloc; "refused {refusal}\n")?)),
+        }
+    }
+}
+
+impl Ending {
+    /// The status that is due for this end.
+    pub(crate) fn status(&self) -> u8
+        ensures { result ≡ status_of self.now }
+    {
+        match self {
+            Ending::Usage => 1,
+            Ending::ReadFault => 2,
+            Ending::NoMemory => 4,
+            Ending::TooLarge => 5,
+            Ending::Answered(answer) => answer.status(),
+        }
+    }
+
+    /// The whole text that is due for this end.
+    #[tactic(auto, unfolding(crate::specs::Ending::text_of))]
+    pub(crate) fn into_text(self, alloc: Global) -> Result<Bytes, AllocError>
+        ensures { IfOk result (λ text. text ≡ text_of self) }
+    {
+        match self {
+            Ending::Usage => Ok(text_from(format!(in alloc; "usage: helios COMMAND [WORDS]\n")?)),
+            Ending::ReadFault => Ok(text_from(format!(in alloc; "fault read\n")?)),
+            Ending::NoMemory => Ok(text_from(format!(in alloc; "fault memory\n")?)),
+            Ending::TooLarge => Ok(text_from(format!(in alloc; "refused too-large\n")?)),
+            Ending::Answered(answer) => answer.into_text(alloc),
+        }
+    }
+}
+
+fn text_from(line: String) -> Bytes
+    ensures { result ≡ string_bytes line }
+{
+    Bytes::new(line.into_bytes())
+}

@@ -1,0 +1,19 @@
+//! The top call: `run` does all that the program does, from the words of a command line and the
+//! bytes of an input to one text or one line and an exit status.
+#![tactic(auto)]
+
+mod ending;
+mod json;
+mod reading;
+mod replay;
+#[cfg(test)]
+mod tests;
+mod top;
+mod words;
+
+pub use ending::{Answer, Ending, Refusal, Status};
+pub use top::run;
+pub use words::Command;
+
+/// Bytes that a command reads at most.
+pub const INPUT_LIMIT: usize = 16_777_216;

@@ -1,0 +1,122 @@
+ghost use Rattle.std.specs.Prelude.{◌≡◌, Option, IfOk, option_and_then, option_map};
+ghost use Rattle.serde_json.specs.View.{items_view, view};
+ghost use Rattle.serde_json.specs.Find.{as_array};
+ghost use Rattle.schedule_replay.specs.Replayable.{IsReplayable};
+ghost use Rattle.helios_top.specs.Json.{Gives};
+ghost use Rattle.helios_top.specs.Reading.{is_number, is_one_site_plan, is_signed_zero, one_site, plan_at, schedule_at, schedule_of, steps_from};
+
+use crate::json::{Unread, is_text, only, value_of};
+use helios_model::names::{Name, Names};
+use helios_model::numbers::Times;
+use helios_model::plan::Plan;
+use schedule_replay::schedule::Schedule;
+use schedule_replay::step_lists::StepList;
+use schedule_replay::steps::Step;
+use serde_json::Value;
+use std::alloc::{AllocError, Global};
+
+/// The schedule that the text is.
+#[tactic(auto, unfolding(crate::specs::Reading::schedule_of))]
+pub(crate) fn read_schedule(alloc: Global, text: &[u8]) -> Result<Schedule, Unread>
+    ensures { Gives result (schedule_of text.now) }
+{
+    let value = value_of(alloc, text)?;
+    schedule_from(alloc, &value)
+}
+
+#[tactic(auto, unfolding(crate::specs::Reading::schedule_at))]
+fn schedule_from(alloc: Global, value: &Value) -> Result<Schedule, Unread>
+    ensures { Gives result (schedule_at (view value.now)) }
+{
+    let plan = plan_from(alloc, value.get("plan"))?;
+    let steps = steps_in(alloc, value.get("steps").and_then(Value::as_array))?;
+    Ok(Schedule { plan, steps })
+}
+
+fn plan_from(alloc: Global, value: Option<&Value>) -> Result<Plan, Unread>
+    ensures { Gives result (option_and_then plan_at (option_map (λ v. view v.now) value.entry)) }
+{
+    match value {
+        Some(plan) => plan_of(alloc, plan),
+        None => Err(Unread::Unbuilt),
+    }
+}
+
+#[tactic(auto, unfolding(crate::specs::Reading::plan_at))]
+fn plan_of(alloc: Global, plan: &Value) -> Result<Plan, Unread>
+    ensures { Gives result (plan_at (view plan.now)) }
+{
+    if is_one_site_plan(plan) {
+        Ok(one_site(alloc)?)
+    } else {
+        Err(Unread::Unbuilt)
+    }
+}
+
+/// Whether the plan has, under its seven names, the values of the plan of the one site `A`.
+#[tactic(auto, unfolding(crate::specs::Reading::is_one_site_plan))]
+fn is_one_site_plan(plan: &Value) -> bool
+    ensures { result ≡ is_one_site_plan (view plan.now) }
+{
+    is_number(only(plan.get("latency")), 0)
+        && is_text(only(plan.get("names")), "A")
+        && is_signed_zero(only(only(plan.get("offset"))))
+        && is_number(only(plan.get("pair")), 0)
+        && is_number(only(only(plan.get("rtt"))), 0)
+        && is_number(plan.get("total"), 0)
+        && is_number(plan.get("version"), 1)
+}
+
+/// Whether the value is this whole number.
+fn is_number(value: Option<&Value>, number: u64) -> bool
+    ensures { result ≡ is_number number (option_map (λ v. view v.now) value.entry) }
+{
+    match value.and_then(Value::as_u64) {
+        Some(found) => found == number,
+        None => false,
+    }
+}
+
+/// Whether the value is zero, in a place where a number may be negative.
+fn is_signed_zero(value: Option<&Value>) -> bool
+    ensures { result ≡ is_signed_zero (option_map (λ v. view v.now) value.entry) }
+{
+    match value.and_then(Value::as_i64) {
+        Some(found) => found == 0,
+        None => false,
+    }
+}
+
+/// The plan of the one site `A`, whose round trip and latency are 0.
+#[tactic(auto, using(crate::proofs::OneSite::one_site_is_plan))]
+fn one_site(alloc: Global) -> Result<Plan, AllocError>
+    ensures { IfOk result (λ plan. plan ≡ one_site) }
+{
+    let name = Name::new(String::from_str(alloc, "A")?);
+    let names = Names::new(vec![in alloc; name]?);
+    Ok(Plan::new(
+        names,
+        Times::new(vec![in alloc; 0]?),
+        Times::new(vec![in alloc; 0]?),
+    ))
+}
+
+fn steps_in(alloc: Global, array: Option<&Vec<Value>>) -> Result<StepList, Unread>
+    ensures { Gives result (option_and_then steps_from (option_map (λ v. items_view v.now.items) array.entry)) }
+{
+    match array {
+        Some(items) => steps_of(alloc, items.as_slice()),
+        None => Err(Unread::Unbuilt),
+    }
+}
+
+#[tactic(auto, using(crate::proofs::Items::no_steps_from, crate::proofs::Items::some_steps_from))]
+fn steps_of(alloc: Global, items: &[Value]) -> Result<StepList, Unread>
+    ensures { Gives result (steps_from (items_view items.now)) }
+{
+    if items.is_empty() {
+        Ok(StepList::new(Vec::new(alloc)))
+    } else {
+        Err(Unread::Unbuilt)
+    }
+}

@@ -1,0 +1,170 @@
+ghost use Rattle.std.specs.Prelude.{◌<◌};
+
+use crate::{INPUT_LIMIT, run};
+use outside_io::{MemSink, MemSource};
+use std::alloc::{AllocError, Global};
+use std::test::Fail;
+
+const REPORT: &str = "site 0 time 0 log 0 pending 0\n";
+
+const USAGE: &str = "usage: helios COMMAND [WORDS]\n";
+
+const UNBUILT: &str = "refused unbuilt\n";
+
+/// The schedule without steps.
+const EMPTY: &str =
+    r#"{"plan":{"latency":[0],"names":["A"],"offset":[[0]],"pair":[0],"rtt":[[0]],"total":0,"version":1},"steps":[]}"#;
+
+/// What a run over memory came to: the status, what was written, and how many bytes were not read.
+#[derive(Drop)]
+struct Outcome {
+    status: u8,
+    written: Vec<u8>,
+    left: usize,
+}
+
+/// Runs the words over the input, both ends in pieces of so many bytes. The reads and the writes
+/// with these numbers fail.
+fn run_over(
+    alloc: Global,
+    words: &[&str],
+    input: Vec<u8>,
+    piece: usize,
+    reads: &[u64],
+    writes: &[u64],
+) -> Result<Outcome, AllocError>
+    requires { 0 < piece }
+{
+    let mut texts = Vec::new(alloc);
+    for word in words {
+        texts.push(String::from_str(alloc, word)?)?;
+    }
+    let mut source = MemSource::new(input, piece, reads.to_vec(alloc)?);
+    let mut sink = MemSink::new(alloc, 100, piece, writes.to_vec(alloc)?)?;
+    let status = run(alloc, &texts, &mut source, &mut sink);
+    Ok(Outcome {
+        status: status.0,
+        written: sink.taken().to_vec(alloc)?,
+        left: source.left().len(),
+    })
+}
+
+#[test]
+fn answers_each_input(rt: HostRuntime) -> Result<(), Fail> {
+    let cases: [(&[&str], &str, u8, &str); 13] = [
+        (&["replay"], EMPTY, 0, REPORT),
+        (&["replay"], "", 5, UNBUILT),
+        (&["replay"], "[", 5, UNBUILT),
+        (&[], "", 1, USAGE),
+        (&["replay", "x"], EMPTY, 1, USAGE),
+        (&["Replay"], EMPTY, 1, USAGE),
+        (&["--help"], EMPTY, 1, USAGE),
+        (
+            &["replay"],
+            r#"{"steps":[],"more":{},"plan":{"x":1,"version":1,"total":0,"rtt":[[0]],"pair":[0],"offset":[[0]],"names":["A"],"latency":[0]}}"#,
+            0,
+            REPORT,
+        ),
+        (
+            &["replay"],
+            r#"{"plan":{"latency":[0],"names":["B"],"offset":[[0]],"pair":[0],"rtt":[[0]],"total":0,"version":1},"steps":[]}"#,
+            5,
+            UNBUILT,
+        ),
+        (
+            &["replay"],
+            r#"{"plan":{"latency":[0],"names":["A"],"offset":[[-0]],"pair":[0],"rtt":[[0]],"total":0,"version":1},"steps":[]}"#,
+            5,
+            UNBUILT,
+        ),
+        (
+            &["replay"],
+            r#"{"plan":{"latency":[0.0],"names":["A"],"offset":[[0]],"pair":[0],"rtt":[[0]],"total":0,"version":1},"steps":[]}"#,
+            5,
+            UNBUILT,
+        ),
+        (
+            &["replay"],
+            r#"{"plan":{"latency":[0],"names":["A"],"offset":[[0]],"pair":[0],"rtt":[[0]],"total":0},"steps":[]}"#,
+            5,
+            UNBUILT,
+        ),
+        (
+            &["replay"],
+            r#"{"plan":{"latency":[0],"names":["A"],"offset":[[0]],"pair":[0],"rtt":[[0]],"total":0,"version":1},"steps":[{}]}"#,
+            5,
+            UNBUILT,
+        ),
+    ];
+    for (words, input, status, text) in cases {
+        let got = run_over(
+            rt.alloc(),
+            words,
+            input.as_bytes().to_vec(rt.alloc())?,
+            1,
+            &[],
+            &[],
+        )?;
+        assert_eq!(rt; got.status, status, "{input}");
+        assert_eq!(rt; got.written.as_slice(), text.as_bytes(), "{input}");
+        let unread = if status == 1 { input.len() } else { 0 };
+        assert_eq!(rt; got.left, unread, "{input}");
+    }
+    Ok(())
+}
+
+#[test]
+fn ends_by_each_fault(rt: HostRuntime) -> Result<(), Fail> {
+    let cases: [(&[&str], &[u64], &[u64], u8, &str); 7] = [
+        (&["replay"], &[0], &[], 2, "fault read\n"),
+        (&["replay"], &[1], &[], 2, "fault read\n"),
+        (&["replay"], &[], &[0], 3, ""),
+        (&["replay"], &[], &[2], 3, "site 0 tim"),
+        (&["replay"], &[0], &[1], 3, "fault"),
+        (&[], &[], &[0], 3, ""),
+        (&[], &[0], &[], 1, USAGE),
+    ];
+    for (words, reads, writes, status, text) in cases {
+        let got = run_over(
+            rt.alloc(),
+            words,
+            EMPTY.as_bytes().to_vec(rt.alloc())?,
+            5,
+            reads,
+            writes,
+        )?;
+        assert_eq!(rt; got.status, status, "{text}");
+        assert_eq!(rt; got.written.as_slice(), text.as_bytes(), "{text}");
+    }
+    Ok(())
+}
+
+#[test]
+fn refuses_bytes_that_are_no_text(rt: HostRuntime) -> Result<(), Fail> {
+    let got = run_over(
+        rt.alloc(),
+        &["replay"],
+        vec![in rt.alloc(); 255u8]?,
+        1,
+        &[],
+        &[],
+    )?;
+    assert_eq!(rt; got.status, 5);
+    assert_eq!(rt; got.written.as_slice(), UNBUILT.as_bytes());
+    Ok(())
+}
+
+#[test]
+fn reads_up_to_the_limit(rt: HostRuntime) -> Result<(), Fail> {
+    let mut input = vec![in rt.alloc(); b' '; INPUT_LIMIT - EMPTY.len()]?;
+    input.extend_from_slice(EMPTY.as_bytes())?;
+    let mut longer = input.clone()?;
+    longer.push(b' ')?;
+    longer.push(b' ')?;
+    let most = run_over(rt.alloc(), &["replay"], input, 65536, &[], &[])?;
+    assert_eq!(rt; (most.status, most.left), (0, 0));
+    let over = run_over(rt.alloc(), &["replay"], longer, 65536, &[], &[])?;
+    assert_eq!(rt; (over.status, over.left), (5, 1));
+    assert_eq!(rt; over.written.as_slice(), b"refused too-large\n".as_slice());
+    Ok(())
+}

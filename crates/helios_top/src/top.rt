@@ -1,0 +1,147 @@
+ghost use Rattle.std.specs.Prelude.{◌≡◌, ◌≤◌, ◌⊎◌, None, Some, IfOk, IfSome, IsSomeAnd, MatchResult};
+ghost use Rattle.std.specs.Io.KnownBytes.{Appends, IsAtEnd};
+ghost use Rattle.outside_io.specs.Causes.{Rose};
+ghost use Rattle.outside_io.specs.Whole.{AppendsPrefix, IsOverLimit};
+ghost use Rattle.helios_top.specs.declared.ending.Ending.{Ending};
+ghost use Rattle.helios_top.specs.Answer.{answer_to, report_for};
+ghost use Rattle.helios_top.specs.Ending.{text_of};
+ghost use Rattle.helios_top.specs.Reading.{schedule_of};
+ghost use Rattle.helios_top.specs.Run.{Ends, IsAccepted, IsFault, IsRefused, MayEnd, ReadWhole, Wrote, WroteOneLine, WroteText};
+ghost use Rattle.helios_top.specs.Words.{command_of, texts};
+
+use crate::words::read_words;
+use crate::{Answer, Command, Ending, INPUT_LIMIT, Status, replay};
+use outside_io::{InputError, Sink, Source, read_whole, write_whole};
+use std::alloc::{AllocError, Global};
+
+/// Does what the words ask for, which are without the program's own name: reads the input, writes
+/// one text or one line, and gives the exit status.
+pub fn run<S: Source, K: Sink>(
+    alloc: Global,
+    words: &Vec<String>,
+    input: &mut S,
+    output: &mut K,
+) -> Status
+    // Some ending may come, and its text was written whole, or a prefix of it with status 3.
+    ensures ends { Ends (command_of (texts words.now.items)) (S.left input.old) (S.left input.new)
+        (S.faults input.old) (S.faults input.new) (K.taken output.old) (K.taken output.new)
+        (K.faults output.old) (K.faults output.new) result.0 }
+    ensures status { result.0 ≤ 5 }
+
+    // Words that name no command.
+    ensures usage { result.0 ≡ 1 → command_of (texts words.now.items) ≡ None }
+    ensures usage_only { command_of (texts words.now.items) ≡ None
+        → (result.0 ≡ 1) ⊎ (result.0 ≡ 3) ⊎ (result.0 ≡ 4) }
+    ensures unread { command_of (texts words.now.items) ≡ None → input.new ≡ input.old }
+
+    // Faults.
+    ensures read_fault { result.0 ≡ 2 → Rose (S.faults input.old) (S.faults input.new) }
+    ensures write_fault { result.0 ≡ 3 → Rose (K.faults output.old) (K.faults output.new) }
+    ensures prefix { result.0 ≡ 3 → (ending : Ending)
+        × MayEnd (command_of (texts words.now.items)) (S.left input.old) (S.left input.new)
+        (S.faults input.old) (S.faults input.new) ending
+        × AppendsPrefix (K.taken output.old) (K.taken output.new) (text_of ending) }
+    ensures one_line { WroteOneLine (K.taken output.old) (K.taken output.new) result.0 }
+
+    // Inputs that are refused.
+    ensures refused { result.0 ≡ 5 → IfSome (S.left input.old)
+        (λ bytes. IsRefused (command_of (texts words.now.items)) bytes) }
+    ensures refused_only { IfSome (S.left input.old)
+        (λ bytes. IsRefused (command_of (texts words.now.items)) bytes → (result.0 ≡ 5) ⊎ IsFault result.0) }
+    ensures refused_to_end { result.0 ≡ 5 → IsOverLimit INPUT_LIMIT (S.left input.old)
+        ⊎ IsAtEnd (S.left input.new) }
+
+    // Inputs that are accepted.
+    ensures to_end { result.0 ≡ 0 → IsAtEnd (S.left input.new) }
+    ensures complete { IfSome (S.left input.old) (λ bytes. IsAccepted (command_of (texts words.now.items)) bytes
+        → ¬ Rose (S.faults input.old) (S.faults input.new)
+        → (result.0 ≡ 0) ⊎ (result.0 ≡ 3) ⊎ (result.0 ≡ 4)) }
+    ensures replayed { command_of (texts words.now.items) ≡ Some Command.Replay → result.0 ≡ 0
+        → ReadWhole (S.left input.old) (S.left input.new) (λ text. IsSomeAnd (schedule_of text)
+        (λ schedule. Appends (K.taken output.old) (K.taken output.new) (report_for schedule))) }
+{
+    run_whole(alloc, words, input, output)
+}
+
+/// The whole run, by its strong clause.
+fn run_whole<S: Source, K: Sink>(
+    alloc: Global,
+    words: &Vec<String>,
+    input: &mut S,
+    output: &mut K,
+) -> Status
+    ensures ends { Ends (command_of (texts words.now.items)) (S.left input.old) (S.left input.new)
+        (S.faults input.old) (S.faults input.new) (K.taken output.old) (K.taken output.new)
+        (K.faults output.old) (K.faults output.new) result.0 }
+    ensures unread { command_of (texts words.now.items) ≡ None → input.new ≡ input.old }
+{
+    let ending = ending_of(alloc, words, input);
+    write_ending(alloc, output, ending)
+}
+
+/// All that a run does before it writes.
+fn ending_of<S: Source>(alloc: Global, words: &Vec<String>, input: &mut S) -> Ending
+    ensures unread { command_of (texts words.now.items) ≡ None → input.new ≡ input.old }
+    ensures may_end { MayEnd (command_of (texts words.now.items)) (S.left input.old) (S.left input.new)
+        (S.faults input.old) (S.faults input.new) result }
+{
+    match read_words(words) {
+        None => Ending::Usage,
+        Some(command) => read_and_answer(alloc, command, input),
+    }
+}
+
+/// What a command comes to over its input.
+fn read_and_answer<S: Source>(alloc: Global, command: Command, input: &mut S) -> Ending
+    ensures { MayEnd (Some command) (S.left input.old) (S.left input.new)
+        (S.faults input.old) (S.faults input.new) result }
+{
+    match read_whole(alloc, input, INPUT_LIMIT) {
+        Ok(Some(bytes)) => answered(answer(alloc, command, bytes.as_slice())),
+        Ok(None) => Ending::TooLarge,
+        Err(InputError::Failed) => Ending::ReadFault,
+        Err(InputError::NoMemory) => Ending::NoMemory,
+    }
+}
+
+fn answered(answer: Result<Answer, AllocError>) -> Ending
+    ensures { MatchResult answer (λ a. result ≡ Ending.Answered a) (λ _. result ≡ Ending.NoMemory) }
+{
+    match answer {
+        Ok(answer) => Ending::Answered(answer),
+        Err(_) => Ending::NoMemory,
+    }
+}
+
+/// The answer of a command to its whole input.
+fn answer(alloc: Global, command: Command, input: &[u8]) -> Result<Answer, AllocError>
+    ensures { IfOk result (λ answer. answer ≡ answer_to command input.now) }
+{
+    match command {
+        Command::Replay => replay::answer(alloc, input),
+    }
+}
+
+/// Writes what is due for the ending, or the line for want of memory where there is none for it.
+#[tactic(auto, unfolding(crate::specs::Ending::text_of))]
+fn write_ending<K: Sink>(alloc: Global, output: &mut K, ending: Ending) -> Status
+    ensures { Wrote (K.taken output.old) (K.taken output.new) (K.faults output.old) (K.faults output.new) result.0 ending
+        ⊎ Wrote (K.taken output.old) (K.taken output.new) (K.faults output.old) (K.faults output.new) result.0 Ending.NoMemory }
+{
+    let due = ending.status();
+    match ending.into_text(alloc) {
+        Ok(text) => write_text(output, text.items(), due),
+        Err(_) => write_text(output, b"fault memory\n", 4),
+    }
+}
+
+/// Writes the text, and gives the status that is due, or 3 where a write fails.
+fn write_text<K: Sink>(output: &mut K, text: &[u8], due: u8) -> Status
+    ensures { WroteText (K.taken output.old) (K.taken output.new) (K.faults output.old) (K.faults output.new)
+        result.0 due text.now }
+{
+    match write_whole(output, text) {
+        Ok(()) => Status(due),
+        Err(_) => Status(3),
+    }
+}
