@@ -2,6 +2,7 @@
 ghost use Rattle.helios_model.specs.Offset.{OffsetsAreTested};
 ghost use Rattle.helios_model.specs.Laws.Placed.{EachNodeIsPlaced};
 ghost use Rattle.helios_model.specs.Laws.Logs.{EachTimeRises, EachLogIsOwn, EachIdIsGivenOnce, EachEndingFollows, EachConflictIsOrdered, EachEarlierEndsFirst, EachVersionWasCurrent, EachCommitWaited};
+ghost use Rattle.helios_model.specs.Laws.Safe.{EachWorldIsSafe};
 ghost use Rattle.helios_model.specs.Laws.Histories.{SerialAtOneSite, HistoryIsSerial, EachHistoryIsCommits, EachRefusalIsNamed, EachToldStays, EachWorldGrows};
 
 /// The tests of an offset without a subtraction say what the signed number says.
@@ -90,4 +91,9 @@ pub fn each_told_stays()
 /// Steps only add at the end of what was told, of the history and of each site's log.
 pub fn each_world_grows()
     ensures { EachWorldGrows }
+{}
+
+/// In each world of an accepted plan a client may rely on what it was told.
+pub fn each_world_is_safe()
+    ensures { EachWorldIsSafe }
 {}

@@ -2,3 +2,4 @@ pub mod Rests
 pub mod Limits
 pub mod Grows
 pub mod Stands
+pub mod Reaches

@@ -1,4 +1,4 @@
-use Rattle.std.specs.Prelude.{ℕ, List, map, fold}
+use Rattle.std.specs.Prelude.{ℕ, List, [], ◌∷◌, map, fold}
 use Rattle.helios_model.specs.declared.ids.Version.{Version}
 use Rattle.helios_model.specs.declared.items.ReadItem.{ReadItem}
 use Rattle.helios_model.specs.declared.input.Entry.{Entry}
@@ -47,3 +47,8 @@ after_step plan w s = happens plan w (event_for plan w s)
 -- the world that the steps reach, one after the other
 abbrev pub after_steps : Setting → World → List Step → World
 after_steps plan w steps = fold (after_step plan) w steps
+
+-- the same as a list of steps of the world, each as it is meant in the world that the ones before it reach
+abbrev pub events_for : Setting → World → List Step → List Event
+events_for plan w [] = []
+events_for plan w (s ∷ ss) = event_for plan w s ∷ events_for plan (after_step plan w s) ss

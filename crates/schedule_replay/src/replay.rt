@@ -5,7 +5,9 @@ ghost use Rattle.helios_model.specs.Setting.{count_of};
 ghost use Rattle.schedule_replay.specs.Planning.{inputs_of, site_of};
 ghost use Rattle.schedule_replay.specs.Replay.{IsReport};
 ghost use Rattle.schedule_replay.specs.Replayable.{IsPlannedStep, IsReplayable, most_steps};
-ghost use Rattle.schedule_replay.specs.Report.{commit_line, site_line};
+ghost use Rattle.helios_model.specs.Laws.Safe.{IsSafe};
+ghost use Rattle.helios_model.specs.Serial.{IsSerial};
+ghost use Rattle.schedule_replay.specs.Report.{commit_line, reached, site_line};
 ghost use Rattle.schedule_replay.specs.Standing.{IsStandingAt, first_held};
 
 use crate::inputs::Planned;
@@ -115,9 +117,12 @@ fn finish(alloc: Global, cores: &[Core], output: Output) -> Result<Report, Alloc
 }
 
 /// Takes the cluster of a plan through the steps of a schedule, from the first world on.
+
 pub fn replay(alloc: Global, schedule: &Schedule) -> Result<Report, AllocError>
     requires { IsReplayable schedule.now.plan schedule.now.steps }
-    ensures { IfOk result (IsReport schedule.now.plan schedule.now.steps) }
+    ensures report { IfOk result (IsReport schedule.now.plan schedule.now.steps) }
+    ensures safe { IfOk result (λ _. IsSafe schedule.now.plan (reached schedule.now.plan schedule.now.steps)) }
+    ensures serial { IfOk result (λ report. IsSerial report.commits) }
 {
     let steps = schedule.steps.items();
     let mut cores = cores_of(alloc, &schedule.plan)?;
