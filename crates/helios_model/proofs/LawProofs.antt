@@ -18,3 +18,4 @@ pub mod ReachedWorlds
 pub mod Unheard
 pub mod SerialHistories
 pub mod ToldLaws
+pub mod Ceilings

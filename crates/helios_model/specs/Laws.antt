@@ -6,3 +6,4 @@ pub mod Order
 pub mod Nodes
 pub mod Logs
 pub mod Histories
+pub mod Ceiling
