@@ -22,8 +22,7 @@ pub fn each_time_rises()
     ensures { EachTimeRises }
 {}
 
-/// A site has at most 65,536 own unfinished transactions, and its clock comes at most to 2^62 - 2^16 half microseconds, so
-/// each time of a node fits.
+/// A site has at most 65,536 own unfinished transactions, and its clock comes at most to 2^62 - 2^16 half microseconds.
 pub fn each_node_stays_below()
     ensures { EachNodeStaysBelow }
 {}
