@@ -19,3 +19,4 @@ pub mod Unheard
 pub mod SerialHistories
 pub mod ToldLaws
 pub mod Safe
+pub mod Ceilings

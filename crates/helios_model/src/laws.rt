@@ -1,6 +1,7 @@
 // Each law is carried by a function with an empty body, whose one clause states it of every plan and every list of steps.
 ghost use Rattle.helios_model.specs.Offset.{OffsetsAreTested};
 ghost use Rattle.helios_model.specs.Laws.Placed.{EachNodeIsPlaced};
+ghost use Rattle.helios_model.specs.Laws.Ceiling.{EachNodeStaysBelow};
 ghost use Rattle.helios_model.specs.Laws.Logs.{EachTimeRises, EachLogIsOwn, EachIdIsGivenOnce, EachEndingFollows, EachConflictIsOrdered, EachEarlierEndsFirst, EachVersionWasCurrent, EachCommitWaited};
 ghost use Rattle.helios_model.specs.Laws.Safe.{EachWorldIsSafe};
 ghost use Rattle.helios_model.specs.Laws.Histories.{SerialAtOneSite, HistoryIsSerial, EachHistoryIsCommits, EachRefusalIsNamed, EachToldStays, EachWorldGrows};
@@ -20,6 +21,11 @@ pub fn each_node_is_placed()
 /// site's row of the table has of its origin: an own time is at most the site's clock.
 pub fn each_time_rises()
     ensures { EachTimeRises }
+{}
+
+/// A site has at most 65,536 own unfinished transactions, and its clock comes at most to 2^62 - 2^16 half microseconds.
+pub fn each_node_stays_below()
+    ensures { EachNodeStaysBelow }
 {}
 
 /// Each record of a site's log is the site's own. This holds as long as sites send each other no messages.

@@ -29,7 +29,7 @@ pub record IsWithin (plan : Setting) (n : Node) : Type 0 where
   pub here : n.site < count_of plan
   pub sized : length n.table ≡ count_of plan * count_of plan
 
-known_own : (plan : Setting) (n : Node) (r : Record) (time : ℕ) → IsWithin plan n
+pub known_own : (plan : Setting) (n : Node) (r : Record) (time : ℕ) → IsWithin plan n
     → known plan (with_clock plan (with_record n r) time) n.site n.site ≡ time
 known_own plan n r time h =
     let low : n.site * count_of plan + n.site < count_of plan * count_of plan = mul-add-lt n.site (count_of plan) n.site (count_of plan) h.here h.here in

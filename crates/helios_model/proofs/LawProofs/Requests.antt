@@ -141,7 +141,7 @@ commit_own site (Prepare p) h = absurd h
 commit_own site (Commit id time) h = h
 commit_own site (Abort id time cause) h = absurd h
 
-kept_entered : (plan : Setting) (n : Node) (p : Transaction) → IsKept plan n → p.id.site ≡ n.site → clock plan n < p.id.time → IsAsked n.log p
+pub kept_entered : (plan : Setting) (n : Node) (p : Transaction) → IsKept plan n → p.id.site ≡ n.site → clock plan n < p.id.time → IsAsked n.log p
     → IsKept plan (entered plan n p)
 kept_entered plan n p h own above taken = record {
   here = h.here;
@@ -206,7 +206,7 @@ module _ (plan : Setting) (n : Node) (id : TxnId) (ask : Asking) (h : IsKept pla
         says = cond_both (finished after.log id) (Committed id) (Prepared id) (Says n.site n.log after.log ask) committed_in (λ not_yet. taken_in);
       }
 
-follows_asked : (log : List Record) (id : TxnId) (ask : Asking) → stale_read log ask.reads ≡ None → Follows (current log) (asked log id ask)
+pub follows_asked : (log : List Record) (id : TxnId) (ask : Asking) → stale_read log ask.reads ≡ None → Follows (current log) (asked log id ask)
 follows_asked log id ask none = record {
   reads = All-weaker (λ r. not (same_version r.version (current log r.key)) ≡ false) (λ r. r.version ≡ current log r.key)
       (λ r fresh. same_version_is r.version (current log r.key) (not-false (same_version r.version (current log r.key)) fresh))
@@ -214,7 +214,7 @@ follows_asked log id ask none = record {
   writes = All-map (λ w. w.over ≡ current log w.key) (write_at log) ask.puts (λ k d low. refl);
 }
 
-next_own_above : (plan : Setting) (n : Node) (reading : ℕ) → clock plan n < next_time plan n reading
+pub next_own_above : (plan : Setting) (n : Node) (reading : ℕ) → clock plan n < next_time plan n reading
 next_own_above plan n reading = omega arith
 
 clash_answered : (plan : Setting) (n : Node) (reading : ℕ) (ask : Asking) (o : Option Transaction) → IsKept plan n

@@ -66,7 +66,7 @@ follows_open plan n p h o =
     let passes = find_passes (λ q. same_id q.id p.id) (prepares n.log) p o.found in
     All-contains (λ q. q.id.site ≡ n.site → Follows (current n.log) q) (unfinished n.log) p h.pool.fits (unfinished_has n.log p passes.0 o.unended) o.own
 
-pub kept_commit : (plan : Setting) (n : Node) (p : Transaction) → IsKept plan n → IsOpen n p → HasWaited plan n p → IsKept plan (commit_one plan n p.id)
+kept_commit : (plan : Setting) (n : Node) (p : Transaction) → IsKept plan n → IsOpen n p → HasWaited plan n p → IsKept plan (commit_one plan n p.id)
 kept_commit plan n p h o w = record {
   here = h.here;
   placed = placed_clock plan n.site (with_record n (Commit p.id (clock plan n + 1))) (clock plan n + 1) (record { at_site = refl; sized = h.placed.sized });
@@ -81,33 +81,45 @@ still_open plan n p q apart o = record {
   own = o.own;
 }
 
-pub commits_go : (plan : Setting) (n : Node) (ps : List Transaction) → IsKept plan n → All (IsOpen n) ps → All (HasWaited plan n) ps
-    → AllPairs (λ a b. same_id a.id b.id ≡ false) ps → IsSettled plan n (fold (commit_one plan) n (map (λ p. p.id) ps))
-commits_go plan n [] h opens waits ids = record {
+-- own unfinished transactions that have waited, with different ids
+pub record IsReady (plan : Setting) (n : Node) (ps : List Transaction) : Type 0 where
+  pub opens : All (IsOpen n) ps
+  pub waits : All (HasWaited plan n) ps
+  pub apart : AllPairs (λ a b. same_id a.id b.id ≡ false) ps
+
+-- after the Commit of the first of them the others are still ready
+pub ready_rest : (plan : Setting) (n : Node) (p : Transaction) (ps : List Transaction) → IsReady plan n (p ∷ ps) → IsReady plan (commit_one plan n p.id) ps
+ready_rest plan n p ps h = record {
+  opens = λ k d low. still_open plan n p (get_or ps k d) (pairs_head (λ a b. same_id a.id b.id ≡ false) p ps h.apart k d low) (All-tail (IsOpen n) p ps h.opens k d low);
+  waits = λ k d low.
+      goes_on_waiting plan n (Commit p.id (clock plan n + 1)) (clock plan n + 1) (get_or ps k d) (All-tail (HasWaited plan n) p ps h.waits k d low);
+  apart = pairs_tail (λ a b. same_id a.id b.id ≡ false) p ps h.apart;
+}
+
+pub kept_first : (plan : Setting) (n : Node) (p : Transaction) (ps : List Transaction) → IsKept plan n → IsReady plan n (p ∷ ps) → IsKept plan (commit_one plan n p.id)
+kept_first plan n p ps kept h = kept_commit plan n p kept (All-head (IsOpen n) p ps h.opens) (All-head (HasWaited plan n) p ps h.waits)
+
+commits_go : (plan : Setting) (n : Node) (ps : List Transaction) → IsKept plan n → IsReady plan n ps → IsSettled plan n (fold (commit_one plan) n (map (λ p. p.id) ps))
+commits_go plan n [] kept h = record {
   more = [];
   grown = sym (append-nil n.log);
   only = All-nil (IsCommitOf n.site);
   same_site = refl;
-  kept = h;
+  kept = kept;
 }
-commits_go plan n (p ∷ ps) h opens waits ids =
-    let o : IsOpen n p = All-head (IsOpen n) p ps opens in
-    let apart : All (λ q. same_id p.id q.id ≡ false) ps = pairs_head (λ a b. same_id a.id b.id ≡ false) p ps ids in
-    let still : All (IsOpen (commit_one plan n p.id)) ps =
-    (λ k d low. still_open plan n p (get_or ps k d) (apart k d low) (All-tail (IsOpen n) p ps opens k d low)) in
-    let waiting : All (HasWaited plan (commit_one plan n p.id)) ps =
-    (λ k d low. goes_on_waiting plan n (Commit p.id (clock plan n + 1)) (clock plan n + 1) (get_or ps k d) (All-tail (HasWaited plan n) p ps waits k d low)) in
-    joined (commits_go plan (commit_one plan n p.id) ps (kept_commit plan n p h o (All-head (HasWaited plan n) p ps waits)) still waiting (pairs_tail (λ a b. same_id a.id b.id ≡ false) p ps ids)) o
+commits_go plan n (p ∷ ps) kept h = joined (commits_go plan (commit_one plan n p.id) ps (kept_first plan n p ps kept h) (ready_rest plan n p ps h))
   where
-    joined : IsSettled plan (commit_one plan n p.id) (fold (commit_one plan) (commit_one plan n p.id) (map (λ q. q.id) ps)) → IsOpen n p
+    joined : IsSettled plan (commit_one plan n p.id) (fold (commit_one plan) (commit_one plan n p.id) (map (λ q. q.id) ps))
         → IsSettled plan n (fold (commit_one plan) (commit_one plan n p.id) (map (λ q. q.id) ps))
-    joined rest o = record {
-      more = Commit p.id (clock plan n + 1) ∷ rest.more;
-      grown = rest.grown ∙ append_assoc n.log (Commit p.id (clock plan n + 1) ∷ []) rest.more;
-      only = All-cons (IsCommitOf n.site) (Commit p.id (clock plan n + 1)) rest.more o.own rest.only;
-      same_site = rest.same_site;
-      kept = rest.kept;
-    }
+    joined rest =
+        let first : IsOpen n p = All-head (IsOpen n) p ps h.opens in
+        record {
+          more = Commit p.id (clock plan n + 1) ∷ rest.more;
+          grown = rest.grown ∙ append_assoc n.log (Commit p.id (clock plan n + 1) ∷ []) rest.more;
+          only = All-cons (IsCommitOf n.site) (Commit p.id (clock plan n + 1)) rest.more first.own rest.only;
+          same_site = rest.same_site;
+          kept = rest.kept;
+        }
 
 own_open_is : (n : Node) (p : Transaction) → AllPairs (λ a b. same_id a.id b.id ≡ false) (prepares n.log) → Contains (own_open n) p → IsOpen n p
 own_open_is n p ids there =
@@ -136,13 +148,17 @@ reached_waited plan n p reached j low apart =
     by_side (inl same) = absurd (apart (eqb-true j n.site same))
     by_side (inr past) = leb-true (p.id.time + latency plan n.site) (known plan n n.site j + rtt plan n.site j) past
 
+-- what Settle commits is ready
+pub ready_now : (plan : Setting) (n : Node) → IsKept plan n → IsReady plan n (filter (λ p. is_reached plan n p.id.time) (own_open n))
+ready_now plan n h = record {
+  opens = all_from (IsOpen n) (filter (λ p. is_reached plan n p.id.time) (own_open n))
+      (λ p there. own_open_is n p h.laws.pool.ids (contains_from_filter (λ q. is_reached plan n q.id.time) (own_open n) p there).0);
+  waits = All-weaker (λ p. is_reached plan n p.id.time ≡ true) (HasWaited plan n) (λ p reached. reached_waited plan n p reached)
+      (filter (λ p. is_reached plan n p.id.time) (own_open n)) (filter_passes (λ p. is_reached plan n p.id.time) (own_open n));
+  apart = AllPairs-filter (λ a b. same_id a.id b.id ≡ false) (λ p. is_reached plan n p.id.time) (own_open n)
+      (AllPairs-filter (λ a b. same_id a.id b.id ≡ false) (is_own n.site) (unfinished n.log)
+      (AllPairs-filter (λ a b. same_id a.id b.id ≡ false) (λ p. not (finished n.log p.id)) (prepares n.log) h.laws.pool.ids));
+}
+
 pub settle_goes : (plan : Setting) (n : Node) → IsKept plan n → IsSettled plan n (settle plan n)
-settle_goes plan n h =
-    commits_go plan n (filter (λ p. is_reached plan n p.id.time) (own_open n)) h
-    (all_from (IsOpen n) (filter (λ p. is_reached plan n p.id.time) (own_open n))
-    (λ p there. own_open_is n p h.laws.pool.ids (contains_from_filter (λ q. is_reached plan n q.id.time) (own_open n) p there).0))
-    (All-weaker (λ p. is_reached plan n p.id.time ≡ true) (HasWaited plan n) (λ p reached. reached_waited plan n p reached)
-    (filter (λ p. is_reached plan n p.id.time) (own_open n)) (filter_passes (λ p. is_reached plan n p.id.time) (own_open n)))
-    (AllPairs-filter (λ a b. same_id a.id b.id ≡ false) (λ p. is_reached plan n p.id.time) (own_open n)
-    (AllPairs-filter (λ a b. same_id a.id b.id ≡ false) (is_own n.site) (unfinished n.log)
-    (AllPairs-filter (λ a b. same_id a.id b.id ≡ false) (λ p. not (finished n.log p.id)) (prepares n.log) h.laws.pool.ids)))
+settle_goes plan n h = commits_go plan n (filter (λ p. is_reached plan n p.id.time) (own_open n)) h (ready_now plan n h)

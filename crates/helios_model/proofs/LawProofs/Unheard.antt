@@ -53,7 +53,7 @@ unheard_entries plan site n [] h = h
 unheard_entries plan site n (e ∷ es) h =
     unheard_entries plan site (after_entry plan n e) es (unheard_by_clock plan site n e.reading e.input (is_journaled e.input && is_spent plan n) h)
 
-empty_unheard : (plan : Setting) (k j : ℕ) → known plan (empty_node plan k) k j ≡ 0
+pub empty_unheard : (plan : Setting) (k j : ℕ) → known plan (empty_node plan k) k j ≡ 0
 empty_unheard plan k j = by_place (cases_lt (k * count_of plan + j) (count_of plan * count_of plan))
   where
     by_place : (k * count_of plan + j < count_of plan * count_of plan) ⊎ (count_of plan * count_of plan ≤ k * count_of plan + j) → known plan (empty_node plan k) k j ≡ 0
