@@ -6,8 +6,5 @@ pub mod Order
 pub mod Nodes
 pub mod Logs
 pub mod Histories
-<<<<<<< HEAD
 pub mod Safe
-=======
 pub mod Ceiling
->>>>>>> ea357c83c1c7af472cfaa6dea93bd708a67d3d6a
