@@ -50,14 +50,14 @@ short_found plan i j first = find_first (is_short plan i) (count_of plan) j firs
 none_short : (plan : Setting) (i : ℕ) → IsRowReached plan i (count_of plan) → short_of plan i ≡ None
 none_short plan i reached = find_none (is_short plan i) (count_of plan) (λ k low. not_short plan i k (λ later. reached k later low))
 
-first_short_found : (plan : Setting) (i j : ℕ) → IsFirstShort plan i j → first_short_of plan ≡ Some (i, j)
+pub first_short_found : (plan : Setting) (i j : ℕ) → IsFirstShort plan i j → first_short_of plan ≡ Some (i, j)
 first_short_found plan i j first =
     let row : find (λ k. is_some (short_of plan k)) (sites_of plan) ≡ Some i =
     find_first (λ k. is_some (short_of plan k)) (count_of plan) i (let a : i < j = first.row.ordered in let b : j < count_of plan = first.row.within in omega arith)
     (ap is_some (short_found plan i j first.row)) (λ k before. ap is_some (none_short plan k (first.above k before))) in
     ap (option_and_then (λ k. option_map (λ m. (k, m)) (short_of plan k))) row ∙ ap (option_map (λ m. (i, m))) (short_found plan i j first.row)
 
-no_short_found : (plan : Setting) → IsAccepted plan → first_short_of plan ≡ None
+pub no_short_found : (plan : Setting) → IsAccepted plan → first_short_of plan ≡ None
 no_short_found plan accepted =
     let none : find (λ k. is_some (short_of plan k)) (sites_of plan) ≡ None =
     find_none (λ k. is_some (short_of plan k)) (count_of plan) (λ k low. ap is_some (none_short plan k (λ j later within. accepted.reached k j low within (λ same. (omega arith))))) in
