@@ -1,3 +1,5 @@
 pub mod Slices
 pub mod Offsets
 pub mod LawProofs
+pub mod PlanLimits
+pub mod FirstBelow

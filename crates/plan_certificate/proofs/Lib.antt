@@ -1,0 +1,5 @@
+pub mod Judgements
+pub mod Optimality
+pub mod Permutations
+pub mod Sums
+pub mod Verdicts
