@@ -2,8 +2,7 @@ use Rattle.std.proofs.Common.{All, ◌≡◌, refl, List, [], ◌∷◌, suc, le
 use Rattle.std.proofs.lemmas.List.{length-map}
 use Rattle.helios_model.specs.Setting.{Setting}
 use Rattle.helios_model.specs.World.{World, MayHappen, MayRun, first_world, node_of, run}
-use Rattle.helios_model.specs.Laws.Safe.{IsSafe}
-use Rattle.helios_model.proofs.LawProofs.Safe.{each_world_is_safe}
+use Rattle.helios_model.specs.Laws.Safe.{EachWorldIsSafe, IsSafe}
 use Rattle.schedule_replay.specs.declared.steps.Step.{Step}
 use Rattle.schedule_replay.specs.declared.steps.Step.TheVariants.{Batch}
 use Rattle.schedule_replay.specs.Planning.{after_step, after_steps, entries_for, event_for, events_for}
@@ -25,7 +24,7 @@ may_run plan w [] each = tt
 may_run plan w (s ∷ ss) each = (planned_may plan w s (each 0 s (omega arith)), may_run plan (after_step plan w s) ss (λ k d low. each (suc k) d (omega arith)))
 
 -- the world that a schedule reaches is safe
-pub reached_safe : (plan : Setting) (steps : List Step) → IsReplayable plan steps → IsSafe plan (reached plan steps)
-reached_safe plan steps h =
+pub reached_safe : EachWorldIsSafe → (plan : Setting) (steps : List Step) → IsReplayable plan steps → IsSafe plan (reached plan steps)
+reached_safe law plan steps h =
     rw (runs plan (first_world plan) steps)
-    (each_world_is_safe plan (events_for plan (first_world plan) steps) (may_run plan (first_world plan) steps h.each) h.accepted)
+    (law plan (events_for plan (first_world plan) steps) (may_run plan (first_world plan) steps h.each) h.accepted)

@@ -16,3 +16,5 @@ pub mod schedule;
 mod sites;
 pub mod step_lists;
 pub mod steps;
+#[cfg(test)]
+mod tests;

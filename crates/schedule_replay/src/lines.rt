@@ -49,7 +49,7 @@ fn push_overwritten(
     push_three(text, b"overwritten ", key.items(), rest.as_bytes())
 }
 
-fn push_reply(alloc: Global, text: &mut Vec<u8>, reply: &Reply) -> Result<(), AllocError>
+pub(crate) fn push_reply(alloc: Global, text: &mut Vec<u8>, reply: &Reply) -> Result<(), AllocError>
     ensures { OnOk result (text.new.items ≡ text.old.items ++ reply_text reply.now) }
 {
     match reply {

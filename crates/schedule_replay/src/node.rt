@@ -78,7 +78,7 @@ impl Core {
         self.table[place(self.plan.count(), self.site, self.site)]
     }
 
-    fn set_clock(&mut self, time: u64)
+    pub(crate) fn set_clock(&mut self, time: u64)
         ensures node { self.new ≡ record { plan = self.old.plan; node = with_clock self.old.plan self.old.node time } }
         ensures clock { clock self.new.plan self.new.node ≡ time }
     {

@@ -19,6 +19,7 @@ use crate::steps::Step;
 use helios_model::commits::CommitEvent;
 use helios_model::history::Commits;
 use helios_model::ids::SiteId;
+use helios_model::laws::each_world_is_safe;
 use helios_model::numbers::Bytes;
 use helios_model::plan::Plan;
 use std::alloc::{AllocError, Global};
@@ -124,6 +125,7 @@ pub fn replay(alloc: Global, schedule: &Schedule) -> Result<Report, AllocError>
     ensures safe { IfOk result (λ _. IsSafe schedule.now.plan (reached schedule.now.plan schedule.now.steps)) }
     ensures serial { IfOk result (λ report. IsSerial report.commits) }
 {
+    each_world_is_safe();
     let steps = schedule.steps.items();
     let mut cores = cores_of(alloc, &schedule.plan)?;
     let mut output = Output {

@@ -21,8 +21,8 @@ returns-clause-report c =
     c.in_ok-report.ensures.commits c.in_ok-report.ensures.refusals
 
 pub returns-clause-safe : goal.returns-clause-safe
-returns-clause-safe c = reached_safe c.args.schedule.now.plan c.args.schedule.now.steps c.requires
+returns-clause-safe c = reached_safe c.each_world_is_safe.ensures c.args.schedule.now.plan c.args.schedule.now.steps c.requires
 
 pub returns-clause-serial : goal.returns-clause-serial
 returns-clause-serial c =
-    subst IsSerial (sym (returns-clause-report c).commits) (reached_safe c.args.schedule.now.plan c.args.schedule.now.steps c.requires).serial
+    subst IsSerial (sym (returns-clause-report c).commits) (reached_safe c.each_world_is_safe.ensures c.args.schedule.now.plan c.args.schedule.now.steps c.requires).serial

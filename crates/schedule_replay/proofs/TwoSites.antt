@@ -1,0 +1,60 @@
+-- The plan of two sites that the tests run on keeps the limits of a plan.
+use Rattle.std.proofs.Common.{All, ◌≡◌, ℕ, ◌<◌, ◌≤◌, ◌⊎◌, inl, inr, List, [], ◌∷◌, refl, arith}
+use Rattle.std.proofs.lemmas.Bool.{cases_eq}
+use Rattle.std.proofs.lemmas.List.Elements.{All-cons, All-nil}
+use Rattle.helios_model.specs.Limits.{IsName, IsNameByte, longest_trip, greatest_latency}
+use Rattle.helios_model.specs.Setting.{IsPlan, trip_at}
+
+abbrev pub two_names : List (List ℕ)
+two_names = (65 ∷ []) ∷ (66 ∷ []) ∷ []
+
+abbrev pub two_trips : List ℕ
+two_trips = 0 ∷ 100 ∷ 100 ∷ 0 ∷ []
+
+abbrev pub two_latencies : List ℕ
+two_latencies = 0 ∷ 200 ∷ []
+
+is_letter : (letter : ℕ) → 33 ≤ letter → letter ≤ 126 → IsName (letter ∷ [])
+is_letter letter low high = record { some = omega arith; most = omega arith; printable = All-cons IsNameByte letter [] (low, high) (All-nil IsNameByte) }
+
+small : (i : ℕ) → i < 2 → (i ≡ 0) ⊎ (i ≡ 1)
+small i h = by_zero (cases_eq i 0)
+  where
+    by_zero : (i ≡ 0) ⊎ (i ≡ 0 → ⊥) → (i ≡ 0) ⊎ (i ≡ 1)
+    by_zero (inl zero_is) = inl zero_is
+    by_zero (inr other) = let one : i ≡ 1 = omega arith in inr one
+
+mirrored : (i j : ℕ) → (i ≡ 0) ⊎ (i ≡ 1) → (j ≡ 0) ⊎ (j ≡ 1) → trip_at 2 two_trips i j ≡ trip_at 2 two_trips j i
+mirrored i j (inl a) (inl b) = rw (a, b) refl
+mirrored i j (inl a) (inr b) = rw (a, b) refl
+mirrored i j (inr a) (inl b) = rw (a, b) refl
+mirrored i j (inr a) (inr b) = rw (a, b) refl
+
+level : (i : ℕ) → (i ≡ 0) ⊎ (i ≡ 1) → trip_at 2 two_trips i i ≡ 0
+level i (inl a) = rw a refl
+level i (inr a) = rw a refl
+
+shorts : All (λ trip. trip ≤ longest_trip) two_trips
+shorts =
+    All-cons (λ trip. trip ≤ longest_trip) 0 (100 ∷ 100 ∷ 0 ∷ []) (omega arith)
+    (All-cons (λ trip. trip ≤ longest_trip) 100 (100 ∷ 0 ∷ []) (omega arith)
+    (All-cons (λ trip. trip ≤ longest_trip) 100 (0 ∷ []) (omega arith)
+    (All-cons (λ trip. trip ≤ longest_trip) 0 [] (omega arith) (All-nil (λ trip. trip ≤ longest_trip)))))
+
+pub two_sites_is_plan : IsPlan two_names two_trips two_latencies
+two_sites_is_plan = record {
+  matrix = record {
+    some = omega arith;
+    few = omega arith;
+    named = All-cons IsName (65 ∷ []) ((66 ∷ []) ∷ []) (is_letter 65 (omega arith) (omega arith))
+        (All-cons IsName (66 ∷ []) [] (is_letter 66 (omega arith) (omega arith)) (All-nil IsName));
+    distinct = refl;
+    square = refl;
+    short = shorts;
+    symmetric = λ i j here there. mirrored i j (small i here) (small j there);
+    diagonal = λ i here. level i (small i here);
+  };
+  planned = refl;
+  bounded = All-cons (λ half_micros. half_micros ≤ greatest_latency) 0 (200 ∷ []) (omega arith)
+      (All-cons (λ half_micros. half_micros ≤ greatest_latency) 200 [] (omega arith) (All-nil (λ half_micros. half_micros ≤ greatest_latency)));
+}
