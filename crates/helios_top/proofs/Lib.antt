@@ -2,3 +2,5 @@ pub mod Texts
 pub mod Items
 pub mod Runs
 pub mod OneSite
+pub mod Spellings
+pub mod Lists

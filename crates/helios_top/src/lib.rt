@@ -6,6 +6,8 @@ mod ending;
 mod json;
 mod reading;
 mod replay;
+mod spelling;
+mod steps;
 #[cfg(test)]
 mod tests;
 mod top;
