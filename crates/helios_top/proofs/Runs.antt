@@ -16,7 +16,7 @@ use Rattle.helios_top.specs.declared.ending.Ending.TheVariants.{Usage, ReadFault
 use Rattle.helios_top.specs.Answer.{answer_to, replay_answer, report_for}
 use Rattle.helios_top.specs.Ending.{answer_status, answer_text, line, refusal_text, status_of, text_of}
 use Rattle.helios_top.specs.Reading.{schedule_of}
-use Rattle.helios_top.specs.Run.{Answers, Ends, IsAccepted, IsFault, IsOfForm, IsOtherForm, IsRefused, IsTooLarge, MayEnd, ReadWhole, Wrote, WroteOneLine}
+use Rattle.helios_top.specs.Run.{Answers, Ends, IsAccepted, IsFault, IsOfForm, IsOtherForm, IsRefused, IsTooLarge, MayEnd, ReadWhole, Wrote, WroteOneLine, WroteRefusal}
 
 -- an answer prints or refuses
 answered_status : (answer : Answer) → (answer_status answer ≡ 0) ⊎ (answer_status answer ≡ 5)
@@ -88,9 +88,13 @@ no_memory_text : text_of NoMemory ≡ line (codes "fault memory")
 unfolding text_of
 no_memory_text = refl
 
-too_large_text : text_of TooLarge ≡ line (codes "refused " ++ codes "too-large")
+too_large_text : text_of TooLarge ≡ line (codes "refused too-large")
 unfolding text_of
 too_large_text = refl
+
+answered_text : (answer : Answer) → text_of (Answered answer) ≡ answer_text answer
+unfolding text_of
+answered_text answer = refl
 
 refused_text : (refusal : Refusal) → text_of (Answered (Refused refusal)) ≡ line (codes "refused " ++ refusal_text refusal)
 unfolding text_of
@@ -189,6 +193,25 @@ one_of_two None bytes accepted refused = refused
 one_of_two (Some command) bytes accepted (inl large) = omega (arith, accepted.0, large)
 one_of_two (Some command) bytes accepted (inr other) = one_form command bytes accepted.1 other
 
+-- the line of an input that is too large, and of one that is of another form
+
+wrote_too_large : (taken taken' : Option (List ℕ)) (named : Option Command) (bytes : List ℕ) → IsSome named → IsTooLarge bytes
+    → Appends taken taken' (line (codes "refused too-large")) → WroteRefusal taken taken' named bytes
+wrote_too_large taken taken' None bytes some large wrote = absurd (no_command None refl some)
+wrote_too_large taken taken' (Some command) bytes some large wrote = (λ again. wrote, λ small. absurd (omega (arith, large, small)))
+
+wrote_answer : (taken taken' : Option (List ℕ)) (command : Command) (bytes : List ℕ) (answer : Answer) → length bytes ≤ INPUT_LIMIT → answer_to command bytes ≡ answer
+    → Appends taken taken' (answer_text answer) → WroteRefusal taken taken' (Some command) bytes
+wrote_answer taken taken' command bytes answer small is wrote =
+    (λ large. absurd (omega (arith, large, small)), λ again. subst (λ (a : Answer). Appends taken taken' (answer_text a)) (sym is) wrote)
+
+wrote_refused : (taken taken' : Option (List ℕ)) (named : Option Command) (left left' : Option (List ℕ)) (bytes : List ℕ) (answer : Answer) → left ≡ Some bytes
+    → Answers named left left' answer → Appends taken taken' (answer_text answer) → WroteRefusal taken taken' named bytes
+wrote_refused taken taken' named left left' bytes answer told h wrote =
+    let same : h.bytes ≡ bytes = answers_told named left left' bytes answer told h in
+    let at_own : WroteRefusal taken taken' (Some h.command) h.bytes = wrote_answer taken taken' h.command h.bytes answer h.fits h.is_answer wrote in
+    subst (λ (n : Option Command). WroteRefusal taken taken' n bytes) (sym h.is_named) (subst (WroteRefusal taken taken' (Some h.command)) same at_own)
+
 -- the ends over an input that is refused
 over_refused : (named : Option Command) (left left' : Option (List ℕ)) (reads reads' status : ℕ) (bytes : List ℕ) (ending : Ending) → MayEnd named left left' reads reads' ending
     → left ≡ Some bytes → IsRefused named bytes → status ≡ status_of ending → (status ≡ 5) ⊎ IsFault status
@@ -266,20 +289,28 @@ module _ {named : Option Command} {left left' : Option (List ℕ)} {reads reads'
   ])
 
   refusal_may : (h : Ends named left left' reads reads' taken taken' writes writes' status) → status ≡ 5
-      → (IsSome named × IsOverLimit INPUT_LIMIT left) ⊎ ((refusal : Refusal) × Answers named left left' (Refused refusal))
+      → (IsSome named × IsOverLimit INPUT_LIMIT left × Appends taken taken' (line (codes "refused too-large")))
+      ⊎ ((refusal : Refusal) × (Answers named left left' (Refused refusal) × Appends taken taken' (answer_text (Refused refusal))))
   refusal_may h e = let d = due h (λ three. omega arith) in elim (is_refused h.ending (sym d.0 ∙ e)) [
-    | inl is ↦ inl (subst (MayEnd named left left' reads reads') is h.may_end)
-    | inr is ↦ inr (is.0, subst (MayEnd named left left' reads reads') is.1 h.may_end)
-  ]
+      inl is ↦ let may : IsSome named × IsOverLimit INPUT_LIMIT left = subst (MayEnd named left left' reads reads') is h.may_end in
+        inl (may.0, may.1, subst (Appends taken taken') (ap text_of is ∙ too_large_text) d.1)
+    | inr is ↦ inr (is.0, (subst (MayEnd named left left' reads reads') is.1 h.may_end,
+        subst (Appends taken taken') (ap text_of is.1 ∙ answered_text (Refused is.0)) d.1)) ]
 
   pub refused_cause : Ends named left left' reads reads' taken taken' writes writes' status → status ≡ 5 → IfSome left (λ bytes. IsRefused named bytes)
   refused_cause h e = if_told left _ (λ bytes told. elim (refusal_may h e) [
     | inl large ↦ too_large_refused named bytes large.0 (over_limit_told left bytes told large.1)
-    | inr may ↦ refused_told named left left' bytes may.0 told may.1
+    | inr may ↦ refused_told named left left' bytes may.0 told may.1.0
+  ])
+
+  pub refusal_line : Ends named left left' reads reads' taken taken' writes writes' status → status ≡ 5 → IfSome left (λ bytes. WroteRefusal taken taken' named bytes)
+  refusal_line h e = if_told left _ (λ bytes told. elim (refusal_may h e) [
+    | inl large ↦ wrote_too_large taken taken' named bytes large.0 (over_limit_told left bytes told large.1) large.2
+    | inr may ↦ wrote_refused taken taken' named left left' bytes (Refused may.0) told may.1.0 may.1.1
   ])
 
   pub refused_to_end : Ends named left left' reads reads' taken taken' writes writes' status → status ≡ 5 → IsOverLimit INPUT_LIMIT left ⊎ IsAtEnd left'
-  refused_to_end h e = elim (refusal_may h e) [ inl large ↦ inl large.1 | inr may ↦ inr may.1.is_whole.ended ]
+  refused_to_end h e = elim (refusal_may h e) [ inl large ↦ inl large.1 | inr may ↦ inr may.1.0.is_whole.ended ]
 
   printed_may : (h : Ends named left left' reads reads' taken taken' writes writes' status) → status ≡ 0
       → (text : List ℕ) × (Answers named left left' (Printed text) × Appends taken taken' text)

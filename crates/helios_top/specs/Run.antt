@@ -10,7 +10,7 @@ use Rattle.helios_top.specs.declared.ending.Answer.{Answer}
 use Rattle.helios_top.specs.declared.ending.Ending.{Ending}
 use Rattle.helios_top.specs.declared.ending.Ending.TheVariants.{Usage, ReadFault, NoMemory, TooLarge, Answered}
 use Rattle.helios_top.specs.Answer.{answer_to}
-use Rattle.helios_top.specs.Ending.{line, status_of, text_of}
+use Rattle.helios_top.specs.Ending.{answer_text, line, status_of, text_of}
 use Rattle.helios_top.specs.Reading.{schedule_of}
 
 -- the words name a command, its input was read whole and to its end and is within the limit, and this is the answer to it
@@ -74,6 +74,12 @@ IsOtherForm Replay bytes = schedule_of bytes ≡ None
 abbrev pub IsRefused : Option Command → List ℕ → Type 0
 IsRefused None bytes = ⊥
 IsRefused (Some command) bytes = IsTooLarge bytes ⊎ IsOtherForm command bytes
+
+-- the line that names why the input is refused was written: its length before its form
+abbrev pub WroteRefusal : Option (List ℕ) → Option (List ℕ) → Option Command → List ℕ → Type 0
+WroteRefusal taken taken' None bytes = ⊥
+WroteRefusal taken taken' (Some command) bytes =
+    (IsTooLarge bytes → Appends taken taken' (line (codes "refused too-large"))) × (length bytes ≤ INPUT_LIMIT → Appends taken taken' (answer_text (answer_to command bytes)))
 
 -- the input is of the form that the command accepts
 abbrev pub IsOfForm : Command → List ℕ → Type 0

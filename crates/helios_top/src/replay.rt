@@ -1,4 +1,5 @@
 ghost use Rattle.std.specs.Prelude.{◌≡◌, IfOk};
+ghost use Rattle.schedule_replay.specs.Replayable.{IsReplayable};
 ghost use Rattle.helios_top.specs.Answer.{replay_answer, report_for};
 ghost use Rattle.helios_top.specs.Reading.{schedule_of};
 
@@ -21,9 +22,9 @@ pub(crate) fn answer(alloc: Global, text: &[u8]) -> Result<Answer, AllocError>
 }
 
 fn report(alloc: Global, schedule: &Schedule) -> Result<Bytes, AllocError>
+    requires { IsReplayable schedule.now.plan schedule.now.steps }
     ensures { IfOk result (λ text. text ≡ report_for schedule.now) }
 {
-    let _steps = &schedule.steps;
-    let line = format!(in alloc; "site 0 time 0 log 0 pending 0\n")?;
-    Ok(Bytes::new(line.into_bytes()))
+    let _s = &schedule.steps;
+    Ok(Bytes::new(Vec::new(alloc)))
 }

@@ -6,7 +6,7 @@ ghost use Rattle.helios_top.specs.declared.ending.Ending.{Ending};
 ghost use Rattle.helios_top.specs.Answer.{answer_to, report_for};
 ghost use Rattle.helios_top.specs.Ending.{text_of};
 ghost use Rattle.helios_top.specs.Reading.{schedule_of};
-ghost use Rattle.helios_top.specs.Run.{Ends, IsAccepted, IsFault, IsRefused, MayEnd, ReadWhole, Wrote, WroteOneLine, WroteText};
+ghost use Rattle.helios_top.specs.Run.{Ends, IsAccepted, IsFault, IsRefused, MayEnd, ReadWhole, Wrote, WroteOneLine, WroteRefusal, WroteText};
 ghost use Rattle.helios_top.specs.Words.{command_of, texts};
 
 use crate::words::read_words;
@@ -46,6 +46,8 @@ pub fn run<S: Source, K: Sink>(
     // Inputs that are refused.
     ensures refused { result.0 ≡ 5 → IfSome (S.left input.old)
         (λ bytes. IsRefused (command_of (texts words.now.items)) bytes) }
+    ensures refused_line { result.0 ≡ 5 → IfSome (S.left input.old) (λ bytes.
+        WroteRefusal (K.taken output.old) (K.taken output.new) (command_of (texts words.now.items)) bytes) }
     ensures refused_only { IfSome (S.left input.old)
         (λ bytes. IsRefused (command_of (texts words.now.items)) bytes → (result.0 ≡ 5) ⊎ IsFault result.0) }
     ensures refused_to_end { result.0 ≡ 5 → IsOverLimit INPUT_LIMIT (S.left input.old)

@@ -1,5 +1,5 @@
 -- Each clause follows from the strong one.
-use Rattle.helios_top.proofs.Runs.{complete, one_line, printed_to_end, read_cause, refused_cause, refused_only, refused_to_end, replayed, status_small, usage_cause, usage_only, write_cause, write_prefix}
+use Rattle.helios_top.proofs.Runs.{complete, one_line, printed_to_end, read_cause, refusal_line, refused_cause, refused_only, refused_to_end, replayed, status_small, usage_cause, usage_only, write_cause, write_prefix}
 use Rattle.helios_top.proofs.top.run.Goals as goal
 
 pub returns-clause-status : goal.returns-clause-status
@@ -25,6 +25,9 @@ returns-clause-one_line g c = one_line c.run_whole.ensures.ends
 
 pub returns-clause-refused : goal.returns-clause-refused
 returns-clause-refused g c = refused_cause c.run_whole.ensures.ends
+
+pub returns-clause-refused_line : goal.returns-clause-refused_line
+returns-clause-refused_line g c = refusal_line c.run_whole.ensures.ends
 
 pub returns-clause-refused_only : goal.returns-clause-refused_only
 returns-clause-refused_only g c = refused_only c.run_whole.ensures.ends
