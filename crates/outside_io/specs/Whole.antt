@@ -1,6 +1,8 @@
 -- What reading a whole input, and writing a whole text, do to bytes that are told.
-use Rattle.std.specs.Prelude.{◌≡◌, ℕ, ◌<◌, ◌≤◌, List, ◌++◌, length, Option, IfSome}
+use Rattle.std.specs.Prelude.{◌≡◌, ℕ, ◌<◌, ◌≤◌, List, ◌++◌, length, Option, IfSome, codes}
 use Rattle.std.specs.Io.KnownBytes.{Appends, Consumes, IsAtEnd}
+use Rattle.outside_io.specs.declared.whole.InputError.{InputError}
+use Rattle.outside_io.specs.declared.whole.InputError.TheVariants.{Failed, NoMemory}
 
 -- these bytes are all that was still to come, and nothing is left
 pub record IsWholeInput (old new : Option (List ℕ)) (bytes : List ℕ) : Type 0 where
@@ -31,3 +33,8 @@ pub record HasGrown (old new : Option (List ℕ)) (before after : List ℕ) (n :
   pub grown : after ≡ before ++ front
   pub taken : Consumes old new front
   pub count : length front ≡ n
+
+-- what a person is told of an input that could not be read
+abbrev pub input_error_text : InputError → List ℕ
+input_error_text Failed = codes "a read failed"
+input_error_text NoMemory = codes "no memory for the input"

@@ -8,6 +8,8 @@ mod memory_source;
 mod quiet;
 mod script;
 mod system;
+#[cfg(test)]
+mod tests;
 mod traits;
 mod unread;
 mod whole;

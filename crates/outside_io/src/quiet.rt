@@ -64,7 +64,9 @@ impl Source for QuietSource {
 pub struct NullSink;
 
 impl NullSink {
-    pub fn new() -> NullSink {
+    pub fn new() -> NullSink
+        ensures { result ≡ record {} }
+    {
         NullSink
     }
 }

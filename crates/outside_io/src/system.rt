@@ -1,11 +1,11 @@
-ghost use Rattle.std.specs.Prelude.{◌≡◌, ℕ, ◌<◌, ◌≤◌, List, None, length, IfOk, MatchResult};
+ghost use Rattle.std.specs.Prelude.{◌≡◌, ℕ, ◌<◌, ◌≤◌, List, None, length, IfOk, IfSome, MatchResult};
 ghost use Rattle.std.specs.Io.{ReadsAtMost};
 ghost use Rattle.std.specs.Io.KnownBytes.{ReadConsumes, WriteAppends};
 ghost use Rattle.outside_io.specs.Causes.{HasCause, IsCount, StaysTold};
 ghost use Rattle.outside_io.specs.Memory.{next_fault};
 
 use crate::{Failed, Sink, Source};
-use std::io::Read;
+use std::io::{ErrorKind, Read};
 use std::marker::Model;
 
 /// The standard input. It does not tell what is still to come; it counts the reads that failed.
@@ -54,14 +54,28 @@ impl<'a, R: Input> Source for StdSource<'a, R> {
         ensures count { IsCount self.new }
         ensures cause { HasCause self.old self.new result }
     {
-        match self.reader.read(into) {
-            Ok(count) => Ok(count),
-            Err(_) => {
+        match read_once(&mut self.reader, into) {
+            Some(count) => Ok(count),
+            None => {
                 self.faults = self.faults.saturating_add(1);
                 Err(Failed)
             }
         }
     }
+}
+
+/// Reads, and again where a signal came between; `None` where the read failed.
+fn read_once<R: Read>(reader: &mut R, into: &mut [u8]) -> Option<usize>
+    ensures { IfSome result (λ n. n ≤ length into.new) }
+{
+    for _ in 0..u64::MAX {
+        match reader.read(into) {
+            Ok(count) => return Some(count),
+            Err(error) if error.kind() == ErrorKind::Interrupted => {}
+            Err(_) => return None,
+        }
+    }
+    None
 }
 
 /// The standard output. It does not tell what it has taken; it counts the writes that failed.
@@ -106,12 +120,26 @@ impl<'a, R: Print> Sink for StdSink<'a, R> {
         ensures count { IsCount self.new }
         ensures cause { HasCause self.old self.new result }
     {
-        match self.rt.write_some(from) {
-            Ok(count) if count > 0 || from.is_empty() => Ok(count),
+        match write_once(self.rt, from) {
+            Some(count) if count > 0 || from.is_empty() => Ok(count),
             _ => {
                 self.faults = self.faults.saturating_add(1);
                 Err(Failed)
             }
         }
     }
+}
+
+/// Writes, and again where a signal came between; `None` where the write failed.
+fn write_once<R: Print>(rt: &R, from: &[u8]) -> Option<usize>
+    ensures { IfSome result (λ n. n ≤ length from.now) }
+{
+    for _ in 0..u64::MAX {
+        match rt.write_some(from) {
+            Ok(count) => return Some(count),
+            Err(error) if error.kind() == ErrorKind::Interrupted => {}
+            Err(_) => return None,
+        }
+    }
+    None
 }

@@ -1,11 +1,13 @@
-ghost use Rattle.std.specs.Prelude.{◌≡◌, ℕ, ◌+◌, ◌<◌, ◌≤◌, List, [], Option, length, IfOk, IfSome, IfNone, IsOk, OnOk, IsErrOf, vec_len};
+ghost use Rattle.std.specs.Prelude.{◌≡◌, ℕ, ◌+◌, ◌<◌, ◌≤◌, List, [], Some, Option, length, IfOk, IfSome, IfNone, IsOk, OnOk, IsErrOf, vec_len};
 ghost use Rattle.std.specs.Io.KnownBytes.{Appends, IsAtEnd};
-ghost use Rattle.outside_io.specs.Causes.{HasCause, Rose, StaysTold};
-ghost use Rattle.outside_io.specs.Whole.{AppendsPrefix, HasGrown, IsOverLimit, IsWholeInput, TakesAtMost};
+ghost use Rattle.outside_io.specs.Causes.{HasCause, IsCount, Rose, StaysTold};
+ghost use Rattle.outside_io.specs.Whole.{AppendsPrefix, HasGrown, input_error_text, IsOverLimit, IsWholeInput, TakesAtMost};
 ghost use Rattle.outside_io.specs.declared.whole.InputError.TheVariants.{Failed as ReadFailed, NoMemory};
 
 use crate::{Failed, Sink, Source};
 use std::alloc::{AllocError, Global};
+use std::error::Error;
+use std::fmt;
 
 /// Why an input could not be read: a read failed, or there was no memory for it.
 #[derive(Clone, Copy, Debug, PartialEq, Eq)]
@@ -13,6 +15,19 @@ pub enum InputError {
     Failed,
     NoMemory,
 }
+
+impl fmt::Display for InputError {
+    ghost output = { λ error. Some (input_error_text error) };
+
+    fn fmt<W: fmt::Write>(&self, f: &mut fmt::Formatter<W>) -> fmt::Result {
+        match self {
+            InputError::Failed => write!(f, "a read failed"),
+            InputError::NoMemory => write!(f, "no memory for the input"),
+        }
+    }
+}
+
+impl Error for InputError {}
 
 impl From<Failed> for InputError {
     ghost from_gives = { λ _ e. e ≡ ReadFailed };
@@ -45,6 +60,7 @@ pub fn read_whole<S: Source>(
     ensures over { IfOk result (λ found. IfNone found (IsOverLimit limit (S.left source.old))) }
     ensures failed { IsErrOf result InputError.Failed → Rose (S.faults source.old) (S.faults source.new) }
     ensures later { S.faults source.old ≤ S.faults source.new }
+    ensures count { IsCount (S.faults source.old) → IsCount (S.faults source.new) }
     ensures most { TakesAtMost (limit + 1) (S.left source.old) (S.left source.new) }
     ensures tells { StaysTold (S.left source.old) (S.left source.new) }
 {
@@ -77,6 +93,7 @@ fn read_piece<S: Source>(
     ensures most { TakesAtMost most (S.left source.old) (S.left source.new) }
     ensures failed { IsErrOf result InputError.Failed → Rose (S.faults source.old) (S.faults source.new) }
     ensures later { S.faults source.old ≤ S.faults source.new }
+    ensures fits { IsCount (S.faults source.new) }
     ensures tells { StaysTold (S.left source.old) (S.left source.new) }
 {
     let piece = &mut buffer[..most];
@@ -90,6 +107,7 @@ fn read_piece<S: Source>(
 pub fn write_whole<K: Sink>(sink: &mut K, text: &[u8]) -> Result<(), Failed>
     ensures ok { OnOk result (Appends (K.taken sink.old) (K.taken sink.new) text.now) }
     ensures prefix { AppendsPrefix (K.taken sink.old) (K.taken sink.new) text.now }
+    ensures count { IsCount (K.faults sink.old) → IsCount (K.faults sink.new) }
     ensures cause { HasCause (K.faults sink.old) (K.faults sink.new) result }
     ensures tells { StaysTold (K.taken sink.old) (K.taken sink.new) }
     ensures empty { text.now ≡ [] → IsOk result × (sink.new ≡ sink.old) }

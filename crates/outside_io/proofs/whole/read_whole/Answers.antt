@@ -8,6 +8,7 @@ loop-buffer-init g c = record {
   tells = search rules;
   fits = omega arith;
   later = omega arith;
+  count = λ held. held;
   room = search rules;
 }
 
@@ -35,5 +36,6 @@ loop-buffer-preserved g c = record {
   tells = c.in_ok-count.ensures.tells ∙ c.loop-buffer.invariant.tells;
   fits = omega arith;
   later = omega (arith, c.in_ok-count.ensures.later, c.loop-buffer.invariant.later);
+  count = λ _. c.in_ok-count.ensures.fits;
   room = omega arith;
 }

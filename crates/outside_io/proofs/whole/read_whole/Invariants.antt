@@ -1,6 +1,6 @@
 use Rattle.std.proofs.Common.{◌≡◌, ◌≤◌, ◌-◌, vec_len}
 use Rattle.std.specs.Io.KnownBytes.{Consumes}
-use Rattle.outside_io.specs.Causes.{StaysTold}
+use Rattle.outside_io.specs.Causes.{IsCount, StaysTold}
 use Rattle.outside_io.proofs.whole.read_whole.Given as goal
 
 abbrev pub invariant-loop-buffer : goal.invariant-loop-buffer
@@ -9,6 +9,7 @@ invariant-loop-buffer g l = record {
   tells : StaysTold (g.S.Source.left l.initial.source) (g.S.Source.left l.source);
   fits : vec_len l.bytes ≤ l.limit;
   later : g.S.Source.faults l.initial.source ≤ g.S.Source.faults l.source;
+  count : IsCount (g.S.Source.faults l.initial.source) → IsCount (g.S.Source.faults l.source);
   room : vec_len l.buffer ≡ vec_len l.initial.buffer;
 }
 

@@ -9,5 +9,6 @@ loop-rest-preserved g c = record {
       subst P (sym c.split_at.ensures.back) (written_more _ _ _ _ _ _ c.loop-rest.invariant.so_far c.in_ok-count.ensures.bytes));
   tells = c.in_ok-count.ensures.tells ∙ c.loop-rest.invariant.tells;
   later = omega (arith, c.in_ok-count.ensures.cause.later, c.loop-rest.invariant.later);
+  count = λ _. c.in_ok-count.ensures.count;
   empty = λ none. absurd (not_empty c.loop-rest.rest.now c.is_empty.result (c.loop-rest.invariant.empty none).1 c.is_empty.ensures c.loop-rest-test.true);
 }
