@@ -17,3 +17,5 @@ pub mod Serial
 pub mod NamedAbort
 pub mod Texts
 pub mod Laws
+pub mod Certificate
+pub mod Optimal

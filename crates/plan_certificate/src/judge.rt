@@ -27,7 +27,7 @@ pub fn check(plan: &Plan, certificate: &Certificate) -> Verdict
 }
 
 // The verdict on an accepted plan and a pairing of its sites.
-#[tactic(auto, using(crate::proofs::Verdicts::certified, crate::proofs::Verdicts::certified_optimal, crate::proofs::Verdicts::latencies_fit, crate::proofs::Verdicts::partners_are_sites))]
+#[tactic(auto, using(crate::proofs::Verdicts::certified, crate::proofs::Verdicts::certified_optimal, helios_model::proofs::PlanLimits::latencies_fit, crate::proofs::Verdicts::partners_are_sites))]
 fn weigh(plan: &Plan, pair: &[u8]) -> Verdict
     requires long { length pair.now ≡ count_of plan.now }
     requires accepted { IsAccepted plan.now }
@@ -52,7 +52,7 @@ fn sum_of(latencies: &[u64]) -> u64
 }
 
 // The round trips to the partners, added up.
-#[tactic(auto, using(crate::proofs::Sums::sum_below_more, crate::proofs::Verdicts::trip_bounded))]
+#[tactic(auto, using(crate::proofs::Sums::sum_below_more, helios_model::proofs::PlanLimits::trip_bounded))]
 fn value_of(plan: &Plan, pair: &[u8]) -> u64
     requires long { length pair.now ≡ count_of plan.now }
     requires sites { All (λ partner. partner < count_of plan.now) pair.now }
