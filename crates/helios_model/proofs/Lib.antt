@@ -1,2 +1,4 @@
 pub mod Slices
 pub mod Offsets
+pub mod LawProofs
+pub mod PlanLimits

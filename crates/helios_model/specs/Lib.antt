@@ -16,3 +16,6 @@ pub mod World
 pub mod Serial
 pub mod NamedAbort
 pub mod Texts
+pub mod Laws
+pub mod Certificate
+pub mod Optimal

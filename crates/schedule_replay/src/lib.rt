@@ -4,8 +4,11 @@
 
 pub mod input_lists;
 pub mod inputs;
+mod node;
 pub mod planned;
 pub mod reads;
+mod requests;
+mod scan;
 pub mod schedule;
 pub mod step_lists;
 pub mod steps;

@@ -1,0 +1,4 @@
+pub mod Worlds
+pub mod Placed
+pub mod Lists
+pub mod Ids

@@ -1,0 +1,4 @@
+pub mod Reached
+pub mod Placed
+pub mod Shapes
+pub mod Pool

@@ -1,0 +1,4 @@
+pub mod Optimality
+pub mod Permutations
+pub mod Sums
+pub mod Verdicts

@@ -1,0 +1,66 @@
+ghost use Rattle.std.specs.Prelude.{◌≡◌, ℕ, ◌^◌, ◌<◌, length, All, sum};
+ghost use Rattle.helios_model.specs.Setting.{IsAccepted, count_of};
+ghost use Rattle.helios_model.specs.Certificate.{pair_value};
+ghost use Rattle.helios_model.specs.Optimal.{IsOptimal};
+ghost use Rattle.plan_certificate.specs.Says.{Says};
+ghost use Rattle.plan_certificate.specs.Verdict.{ArePaired};
+
+use crate::pairing::first_unpaired;
+use crate::short::first_short;
+use crate::verdict::Verdict;
+use helios_model::ids::SiteId;
+use helios_model::plan::{Certificate, Plan};
+
+/// The verdict on a plan and a certificate of as many sites.
+pub fn check(plan: &Plan, certificate: &Certificate) -> Verdict
+    requires { length certificate.now.pair ≡ count_of plan.now }
+    ensures exact { Says plan.now certificate.now.pair result }
+    ensures optimal { (total : ℕ) → result ≡ Verdict.Optimal total → IsOptimal plan.now }
+{
+    if let Some((i, j)) = first_short(plan) {
+        return Verdict::Short(i, j);
+    }
+    if let Some(place) = first_unpaired(plan.count(), certificate.pair.items()) {
+        return Verdict::NoPairing(place as u64);
+    }
+    weigh(plan, certificate.pair.items())
+}
+
+// The verdict on an accepted plan and a pairing of its sites.
+#[tactic(auto, using(crate::proofs::Verdicts::certified, crate::proofs::Verdicts::certified_optimal, helios_model::proofs::PlanLimits::latencies_fit, crate::proofs::Verdicts::partners_are_sites))]
+fn weigh(plan: &Plan, pair: &[u8]) -> Verdict
+    requires long { length pair.now ≡ count_of plan.now }
+    requires accepted { IsAccepted plan.now }
+    requires paired { ArePaired (count_of plan.now) pair.now (length pair.now) }
+    ensures exact { Says plan.now pair.now result }
+    ensures optimal { (total : ℕ) → result ≡ Verdict.Optimal total → IsOptimal plan.now }
+{
+    let given = sum_of(plan.latencies().items());
+    let value = value_of(plan, pair);
+    if given == value {
+        Verdict::Optimal(given)
+    } else {
+        Verdict::ValueDiffers(given, value)
+    }
+}
+
+fn sum_of(latencies: &[u64]) -> u64
+    requires { sum latencies.now < 2 ^ 64 }
+    ensures { result ≡ sum latencies.now }
+{
+    latencies.iter().sum()
+}
+
+// The round trips to the partners, added up.
+#[tactic(auto, using(crate::proofs::Sums::sum_below_more, helios_model::proofs::PlanLimits::trip_bounded))]
+fn value_of(plan: &Plan, pair: &[u8]) -> u64
+    requires long { length pair.now ≡ count_of plan.now }
+    requires sites { All (λ partner. partner < count_of plan.now) pair.now }
+    ensures { result ≡ pair_value plan.now pair.now }
+{
+    let mut value = 0;
+    for i in 0..plan.count() {
+        value += plan.rtt(SiteId::of(i), SiteId::of(pair[i as usize]));
+    }
+    value
+}

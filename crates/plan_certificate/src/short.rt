@@ -1,0 +1,36 @@
+ghost use Rattle.std.specs.Prelude.{◌≡◌, ℕ, ◌+◌, ◌<◌, ◌≤◌, IfSome, IfNone, MatchOption};
+ghost use Rattle.helios_model.specs.Setting.{IsAccepted, count_of};
+ghost use Rattle.plan_certificate.specs.Verdict.{IsReached, IsFirstShort, IsFirstShortInRow, IsRowReached};
+
+use helios_model::ids::SiteId;
+use helios_model::plan::Plan;
+
+/// The first two sites, row by row, whose latencies together don't reach their round trip.
+pub fn first_short(plan: &Plan) -> Option<(SiteId, SiteId)>
+    ensures found { IfSome result (λ pair. IsFirstShort plan.now pair.0 pair.1) }
+    ensures none { IfNone result (IsAccepted plan.now) }
+{
+    let count = plan.count();
+    for i in 0..count {
+        let site = SiteId::of(i);
+        if let Some(other) = short_in_row(plan, site) {
+            return Some((site, other));
+        }
+    }
+    None
+}
+
+fn short_in_row(plan: &Plan, site: SiteId) -> Option<SiteId>
+    requires { site < count_of plan.now }
+    ensures { MatchOption result (IsRowReached plan.now site (count_of plan.now)) (IsFirstShortInRow plan.now site) }
+{
+    let count = plan.count();
+    let own = plan.latency(site);
+    for j in site.number() + 1..count {
+        let other = SiteId::of(j);
+        if own + plan.latency(other) < 2 * plan.rtt(site, other) {
+            return Some(other);
+        }
+    }
+    None
+}

@@ -1,0 +1,43 @@
+use Rattle.std.specs.Prelude.{ℕ, List, Option, Some, None, if◌then◌else◌}
+use Rattle.helios_model.specs.declared.ids.TxnId.{TxnId}
+use Rattle.helios_model.specs.declared.record.Record.{Record}
+use Rattle.helios_model.specs.declared.record.Record.TheVariants.{Prepare, Commit, Abort}
+use Rattle.helios_model.specs.Ids.{same_id}
+use Rattle.helios_model.specs.Transaction.{Transaction}
+use Rattle.helios_model.specs.Log.{finished, prepare_of}
+use Rattle.helios_model.specs.Setting.{Setting}
+use Rattle.helios_model.specs.Node.{Node, is_own}
+use Rattle.helios_model.specs.Settle.{is_reached}
+
+-- the transaction of a record, where it is the Prepare of this id
+abbrev pub named_in : TxnId → Record → Option Transaction
+named_in id (Prepare p) = if same_id p.id id then Some p else None
+named_in id (Commit other time) = None
+named_in id (Abort other time cause) = None
+
+-- the transaction that a record of a log commits
+abbrev pub transaction_in : List Record → Record → Option Transaction
+transaction_in log (Prepare p) = None
+transaction_in log (Commit id time) = prepare_of log id
+transaction_in log (Abort id time cause) = None
+
+-- the transaction of a record of a log, where it is the Prepare of an unfinished one
+abbrev pub open_in : List Record → Record → Option Transaction
+open_in log (Prepare p) = if finished log p.id then None else Some p
+open_in log (Commit id time) = None
+open_in log (Abort id time cause) = None
+
+abbrev pub own_only : ℕ → Option Transaction → Option Transaction
+own_only site None = None
+own_only site (Some p) = if is_own site p then Some p else None
+
+abbrev pub own_open_in : List Record → ℕ → Record → Option Transaction
+own_open_in log site r = own_only site (open_in log r)
+
+abbrev pub reached_only : Setting → Node → Option Transaction → Option TxnId
+reached_only plan n None = None
+reached_only plan n (Some p) = if is_reached plan n p.id.time then Some p.id else None
+
+-- the id of a record's transaction, where it is an own one that commits now
+abbrev pub ready_in : Setting → Node → Record → Option TxnId
+ready_in plan n r = reached_only plan n (own_open_in n.log n.site r)

@@ -1,0 +1,148 @@
+// The rules of a request, in their order.
+ghost use Rattle.std.specs.Prelude.{◌≡◌, ◌+◌, ◌^◌, ◌<◌, false, IfOk, map};
+ghost use Rattle.helios_model.specs.Node.{clock, next_time};
+ghost use Rattle.helios_model.specs.Request.{accept, asked, by_clash, by_room, by_stale, is_full, next_id, request, write_at};
+ghost use Rattle.helios_model.specs.Step.{step};
+
+use crate::node::Core;
+use crate::scan::{current_version, first_clash, first_stale, is_finished};
+use helios_model::ids::{Time, TxnId};
+use helios_model::input::{Entry, Input};
+use helios_model::item_lists::Writes;
+use helios_model::items::{PutItem, WriteItem};
+use helios_model::record::Record;
+use helios_model::reply::Reply;
+use helios_model::transaction::{Ask, Prepare};
+use std::alloc::{AllocError, Global};
+
+const LAST_READING: u64 = 4_611_686_018_427_125_760;
+
+const SPENT_TIME: u64 = 4_611_686_018_427_256_832;
+
+const MOST_OPEN: u64 = 65_536;
+
+fn write_over(log: &[Record], put: &PutItem) -> Result<WriteItem, AllocError>
+    ensures { IfOk result (λ w. w ≡ write_at log.now put.now) }
+{
+    let key = put.key.copy()?;
+    let value = put.value.copy()?;
+    let over = current_version(log, &put.key);
+    Ok(WriteItem { key, value, over })
+}
+
+fn writes_over(
+    alloc: Global,
+    log: &[Record],
+    puts: &[PutItem],
+) -> Result<Vec<WriteItem>, AllocError>
+    ensures { IfOk result (λ ws. ws.items ≡ map (write_at log.now) puts.now) }
+{
+    let mut writes = Vec::new(alloc);
+    for put in puts {
+        writes.push(write_over(log, put)?)?;
+    }
+    Ok(writes)
+}
+
+/// The name that the node gives next.
+fn next_name(core: &Core, reading: u64) -> TxnId
+    requires { clock core.now.plan core.now.node < 2 ^ 62 }
+    ensures name { result ≡ next_id core.now.plan core.now.node reading }
+    ensures small { result.time < 2 ^ 63 }
+{
+    let time = reading.min(LAST_READING).max(core.clock() + 1);
+    TxnId {
+        site: core.site(),
+        time: Time::of(time),
+    }
+}
+
+#[tactic(auto, using(crate::proofs::Limits::is_transaction))]
+fn transaction_for(
+    alloc: Global,
+    core: &Core,
+    reading: u64,
+    ask: &Ask,
+) -> Result<Prepare, AllocError>
+    requires { clock core.now.plan core.now.node < 2 ^ 62 }
+    ensures asked { IfOk result (λ p. p ≡ asked core.now.node.log (next_id core.now.plan core.now.node reading) ask.now) }
+    ensures small { IfOk result (λ p. p.id.time < 2 ^ 63) }
+{
+    let reads = ask.reads().copy()?;
+    let writes = Writes::new(writes_over(alloc, core.log(), ask.puts().items())?);
+    let id = next_name(core, reading);
+    Ok(Prepare::of(id, reads, writes))
+}
+
+fn accept_asked(alloc: Global, core: &mut Core, p: Prepare) -> Result<Reply, AllocError>
+    requires { p.id.time < 2 ^ 63 }
+    ensures answer { IfOk result (λ reply. accept core.old.plan core.old.node p ≡ record { reply = reply; node = core.new.node }) }
+    ensures plan { IfOk result (λ _. core.new.plan ≡ core.old.plan) }
+{
+    let id = p.id();
+    core.enter(p)?;
+    core.settle(alloc)?;
+    if is_finished(core.log(), &id) {
+        Ok(Reply::Committed(id))
+    } else {
+        Ok(Reply::Prepared(id))
+    }
+}
+
+fn accept_unless_clashing(alloc: Global, core: &mut Core, p: Prepare) -> Result<Reply, AllocError>
+    requires { p.id.time < 2 ^ 63 }
+    ensures answer { IfOk result (λ reply. by_stale core.old.plan core.old.node p None ≡ record { reply = reply; node = core.new.node }) }
+    ensures plan { IfOk result (λ _. core.new.plan ≡ core.old.plan) }
+{
+    match first_clash(core.log(), &p) {
+        Some(q) => Ok(Reply::Conflict(q.id())),
+        None => accept_asked(alloc, core, p),
+    }
+}
+
+fn accept_unless_stale(alloc: Global, core: &mut Core, p: Prepare) -> Result<Reply, AllocError>
+    requires { p.id.time < 2 ^ 63 }
+    ensures answer { IfOk result (λ reply. by_room core.old.plan core.old.node p false ≡ record { reply = reply; node = core.new.node }) }
+    ensures plan { IfOk result (λ _. core.new.plan ≡ core.old.plan) }
+{
+    match first_stale(core.log(), p.reads().items()) {
+        Some(read) => {
+            let key = read.key.copy()?;
+            let current = current_version(core.log(), &read.key);
+            Ok(Reply::Overwritten { key, current })
+        }
+        None => accept_unless_clashing(alloc, core, p),
+    }
+}
+
+fn answer_request(
+    alloc: Global,
+    core: &mut Core,
+    reading: u64,
+    ask: &Ask,
+) -> Result<Reply, AllocError>
+    requires { clock core.old.plan core.old.node < 2 ^ 62 }
+    ensures answer { IfOk result (λ reply. request core.old.plan core.old.node reading ask.now ≡ record { reply = reply; node = core.new.node }) }
+    ensures plan { IfOk result (λ _. core.new.plan ≡ core.old.plan) }
+{
+    if core.pending() >= MOST_OPEN {
+        return Ok(Reply::PoolFull);
+    }
+    let p = transaction_for(alloc, core, reading, ask)?;
+    accept_unless_stale(alloc, core, p)
+}
+
+/// Takes the node one step: the answer to an input, by the rules.
+pub(crate) fn answer(alloc: Global, core: &mut Core, entry: &Entry) -> Result<Reply, AllocError>
+    ensures answer { IfOk result (λ reply. step core.old.plan core.old.node entry.now ≡ record { reply = reply; node = core.new.node }) }
+    ensures plan { IfOk result (λ _. core.new.plan ≡ core.old.plan) }
+{
+    match &entry.input {
+        Input::Request(ask) => {
+            if core.clock() >= SPENT_TIME {
+                return Ok(Reply::ClockSpent);
+            }
+            answer_request(alloc, core, entry.reading, ask)
+        }
+    }
+}

@@ -1,0 +1,161 @@
+// Look-ups in a whole log.
+ghost use Rattle.std.specs.Prelude.{◌≡◌, ℕ, ◌↔◌, IsTrue, filter, length};
+ghost use Rattle.std.specs.Option.{option_map};
+ghost use Rattle.helios_model.specs.Conflict.{writes_key};
+ghost use Rattle.helios_model.specs.Ids.{same_id, same_version};
+ghost use Rattle.helios_model.specs.Log.{ends, finished, prepare_of, commit_in, current, unfinished};
+ghost use Rattle.helios_model.specs.Node.{is_own};
+ghost use Rattle.helios_model.specs.Request.{clash, stale_read};
+ghost use Rattle.schedule_replay.specs.Scan.{named_in, transaction_in, open_in, own_open_in};
+
+use helios_model::conflicts::conflicts;
+use helios_model::ids::{SiteId, TxnId, Version};
+use helios_model::items::ReadItem;
+use helios_model::keys::Key;
+use helios_model::record::Record;
+use helios_model::transaction::Prepare;
+
+fn is_same_version(a: &Version, b: &Version) -> bool
+    ensures { result ≡ same_version a.now b.now }
+{
+    match a {
+        Version::Initial => match b {
+            Version::Initial => true,
+            Version::Of(_) => false,
+        },
+        Version::Of(first) => match b {
+            Version::Initial => false,
+            Version::Of(second) => *first == *second,
+        },
+    }
+}
+
+fn is_ending(r: &Record, id: &TxnId) -> bool
+    ensures { result ≡ ends id.now r.now }
+{
+    match r {
+        Record::Prepare(_) => false,
+        Record::Commit { id: other, .. } => *other == *id,
+        Record::Abort { id: other, .. } => *other == *id,
+    }
+}
+
+pub(crate) fn is_finished(log: &[Record], id: &TxnId) -> bool
+    ensures { result ≡ finished log.now id.now }
+{
+    log.iter().any(|r| is_ending(r, id))
+}
+
+fn prepare_named<'a>(r: &'a Record, id: &TxnId) -> Option<&'a Prepare>
+    ensures { option_map (λ p. p.now) result ≡ named_in id.now r.now }
+{
+    match r {
+        Record::Prepare(p) => { if p.id() == *id { Some(p) } else { None } }
+        _ => None,
+    }
+}
+
+#[tactic(auto, using(crate::proofs::Rests::prepare_of_drop))]
+fn find_prepare<'a>(log: &'a [Record], id: &TxnId) -> Option<&'a Prepare>
+    ensures { option_map (λ p. p.now) result ≡ prepare_of log.now id.now }
+{
+    for r in log {
+        if let Some(p) = prepare_named(r, id) {
+            return Some(p);
+        }
+    }
+    None
+}
+
+/// The transaction that a record commits.
+fn committed<'a>(log: &'a [Record], r: &Record) -> Option<&'a Prepare>
+    ensures { option_map (λ p. p.now) result ≡ transaction_in log.now r.now }
+{
+    match r {
+        Record::Commit { id, .. } => find_prepare(log, id),
+        _ => None,
+    }
+}
+
+fn is_writing(p: &Prepare, key: &Key) -> bool
+    ensures { result ≡ writes_key p.now key.now }
+{
+    p.writes().items().iter().any(|w| w.key == *key)
+}
+
+#[tactic(auto, using(crate::proofs::Rests::current_drop))]
+pub(crate) fn current_version(log: &[Record], key: &Key) -> Version
+    ensures { result ≡ current log.now key.now }
+{
+    let mut version = Version::Initial;
+    for r in log {
+        if let Some(p) = committed(log, r) {
+            if is_writing(p, key) {
+                version = Version::Of(p.id());
+            }
+        }
+    }
+    version
+}
+
+/// A record's transaction, where it is a Prepare of one that is not finished.
+fn open_prepare<'a>(log: &[Record], r: &'a Record) -> Option<&'a Prepare>
+    ensures { option_map (λ p. p.now) result ≡ open_in log.now r.now }
+{
+    match r {
+        Record::Prepare(p) => {
+            let id = p.id();
+            if is_finished(log, &id) { None } else { Some(p) }
+        }
+        _ => None,
+    }
+}
+
+#[tactic(auto, using(crate::proofs::Rests::clash_drop))]
+pub(crate) fn first_clash<'a>(log: &'a [Record], p: &Prepare) -> Option<&'a Prepare>
+    ensures { option_map (λ q. q.now) result ≡ clash log.now p.now }
+{
+    for r in log {
+        if let Some(q) = open_prepare(log, r) {
+            if conflicts(p, q) {
+                return Some(q);
+            }
+        }
+    }
+    None
+}
+
+/// A record's transaction, where it is the Prepare of an own one that is not finished.
+pub(crate) fn own_open_prepare<'a>(
+    log: &[Record],
+    site: SiteId,
+    r: &'a Record,
+) -> Option<&'a Prepare>
+    ensures { option_map (λ p. p.now) result ≡ own_open_in log.now site r.now }
+{
+    if let Some(p) = open_prepare(log, r) {
+        if p.id().site == site {
+            return Some(p);
+        }
+    }
+    None
+}
+
+#[tactic(auto, using(crate::proofs::Rests::own_open_drop))]
+pub(crate) fn count_own_open(log: &[Record], site: SiteId) -> u64
+    ensures { result ≡ length (filter (is_own site) (unfinished log.now)) }
+{
+    let mut count = 0;
+    for r in log {
+        if own_open_prepare(log, site, r).is_some() {
+            count += 1;
+        }
+    }
+    count
+}
+
+pub(crate) fn first_stale<'a>(log: &[Record], reads: &'a [ReadItem]) -> Option<&'a ReadItem>
+    ensures { option_map (λ r. r.now) result ≡ stale_read log.now reads.now }
+{
+    reads.iter().find(|r| !is_same_version(&r.version, &current_version(log, &r.key)))
+}
