@@ -1,4 +1,3 @@
-pub mod Texts
 pub mod Items
 pub mod Runs
 pub mod OneSite

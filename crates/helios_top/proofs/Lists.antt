@@ -10,7 +10,8 @@ use Rattle.schedule_replay.specs.declared.steps.Step.{Step}
 use Rattle.helios_top.specs.declared.json.Unread.{Unread}
 use Rattle.helios_top.specs.declared.json.Unread.TheVariants.{Unbuilt, NoMemory}
 use Rattle.helios_top.specs.Json.{Fails}
-use Rattle.helios_top.specs.Stepping.{each_of, read_at, put_at, step_at}
+use Rattle.json_text.specs.Arrays.{each_of}
+use Rattle.helios_top.specs.Stepping.{read_at, put_at, step_at}
 
 -- what is said so far, and then what the rest says
 abbrev pub behind : {T : Type 0} → List T → Option (List T) → Option (List T)

@@ -21,10 +21,12 @@ use Rattle.schedule_replay.specs.declared.schedule.Schedule.{Schedule}
 use Rattle.schedule_replay.specs.declared.steps.Step.{Step}
 use Rattle.schedule_replay.specs.declared.steps.Step.TheVariants.{Batch}
 use Rattle.schedule_replay.specs.Replayable.{IsGiven, IsPlannedBatch, IsPlannedInput, IsPlannedRequest, IsPlannedStep, IsReplayable, IsVersionText, most_steps}
-use Rattle.helios_top.specs.Json.{json_of, only, whole_number}
+use Rattle.helios_top.specs.Json.{only}
 use Rattle.helios_top.specs.Reading.{is_one_site_plan, one_site, plan_at, schedule_at, schedule_of}
 use Rattle.helios_top.specs.Spelling.{id_from, id_of, is_at, key_at, number_of, stored_at, version_at, version_of}
-use Rattle.helios_top.specs.Stepping.{asked_at, batch_at, each_of, is_other_input, is_other_step, put_at, puts_of, read_at, read_of, reads_of, request_at, site_of, step_at, steps_of, within_puts, within_reads, within_steps}
+use Rattle.json_text.specs.Arrays.{each_of, whole_number}
+use Rattle.json_text.specs.Text.{json_of}
+use Rattle.helios_top.specs.Stepping.{asked_at, batch_at, is_other_input, is_other_step, put_at, puts_of, read_at, read_of, reads_of, request_at, site_of, step_at, steps_of, within_puts, within_reads, within_steps}
 use Rattle.helios_top.proofs.OneSite.{one_site_is_accepted}
 
 -- a value that comes of another that is there

@@ -5,7 +5,9 @@ use Rattle.serde_json.specs.Find.{as_array, as_i64, as_number, get}
 use Rattle.helios_model.specs.Setting.{Setting}
 use Rattle.schedule_replay.specs.declared.schedule.Schedule.{Schedule}
 use Rattle.helios_top.specs.Stepping.{steps_of}
-use Rattle.helios_top.specs.Json.{◌>>=◌, is_text, json_of, only, whole_number}
+use Rattle.json_text.specs.Arrays.{whole_number}
+use Rattle.json_text.specs.Text.{json_of}
+use Rattle.helios_top.specs.Json.{◌>>=◌, is_text, only}
 
 -- whether what was found is this number
 abbrev pub is_same_number : ℕ → Option ℕ → Bool

@@ -12,13 +12,9 @@ use Rattle.schedule_replay.specs.declared.inputs.Planned.TheVariants.{Request}
 use Rattle.schedule_replay.specs.declared.steps.Step.{Step}
 use Rattle.schedule_replay.specs.declared.steps.Step.TheVariants.{Batch}
 use Rattle.schedule_replay.specs.Replayable.{most_steps}
-use Rattle.helios_top.specs.Json.{◌>>=◌, only, whole_number}
+use Rattle.json_text.specs.Arrays.{each_of, whole_number}
+use Rattle.helios_top.specs.Json.{◌>>=◌, only}
 use Rattle.helios_top.specs.Spelling.{key_at, stored_at, version_at}
-
--- what each item of an array says, where each says something
-abbrev pub each_of : {T : Type 0} → (Data → Option T) → Items → Option (List T)
-each_of said no_items = Some []
-each_of said (item d ds) = option_and_then (λ x. option_map (λ xs. x ∷ xs) (each_of said ds)) (said d)
 
 -- a read, [KEY,VERSION]
 abbrev pub read_of : Items → Option PlannedRead

@@ -6,11 +6,12 @@ ghost use Rattle.helios_top.specs.Json.{Gives};
 ghost use Rattle.helios_top.specs.Reading.{is_number, is_one_site_plan, is_signed_zero, one_site, plan_at, schedule_at, schedule_of};
 ghost use Rattle.helios_top.specs.Stepping.{steps_of};
 
-use crate::json::{Unread, is_text, only, value_of};
+use crate::json::{Unread, is_text, only};
 use crate::steps::steps_from;
 use helios_model::names::{Name, Names};
 use helios_model::numbers::Times;
 use helios_model::plan::Plan;
+use json_text::value_of;
 use schedule_replay::schedule::Schedule;
 use schedule_replay::step_lists::StepList;
 use serde_json::Value;
@@ -21,7 +22,7 @@ use std::alloc::{AllocError, Global};
 pub(crate) fn read_schedule(alloc: Global, text: &[u8]) -> Result<Schedule, Unread>
     ensures { Gives result (schedule_of text.now) }
 {
-    let value = value_of(alloc, text)?;
+    let value = value_of(alloc, text)?.ok_or(Unread::Unbuilt)?;
     schedule_from(alloc, &value)
 }
 

@@ -5,7 +5,8 @@ ghost use Rattle.serde_json.specs.View.{items_view, view};
 ghost use Rattle.helios_model.specs.Conflict.{same_key};
 ghost use Rattle.helios_model.specs.Distinct.{all_differ};
 ghost use Rattle.helios_top.specs.Json.{Gives};
-ghost use Rattle.helios_top.specs.Stepping.{asked_at, batch_at, each_of, is_other_input, is_other_step, put_at, put_of, puts_of, read_at, read_of, reads_of, request_at, site_of, step_at, steps_of, within_puts, within_reads, within_steps};
+ghost use Rattle.json_text.specs.Arrays.{each_of};
+ghost use Rattle.helios_top.specs.Stepping.{asked_at, batch_at, is_other_input, is_other_step, put_at, put_of, puts_of, read_at, read_of, reads_of, request_at, site_of, step_at, steps_of, within_puts, within_reads, within_steps};
 
 use crate::json::{Unread, only};
 use crate::spelling::{key_in, stored_in, version_in};
