@@ -4,3 +4,4 @@ pub mod OneSite
 pub mod Spellings
 pub mod Lists
 pub mod Replayable
+pub mod Checks

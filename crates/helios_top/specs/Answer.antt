@@ -1,12 +1,20 @@
 -- What each command answers to its whole input.
-use Rattle.std.specs.Prelude.{ℕ, List, Option, Some, None}
+use Rattle.std.specs.Prelude.{◌≡◌, ℕ, List, Option, Some, None, Result, Ok, Err}
+use Rattle.helios_model.specs.declared.plan.Certificate.{Certificate}
+use Rattle.helios_model.specs.Optimal.{IsOptimal}
+use Rattle.helios_model.specs.Setting.{Setting}
+use Rattle.commit_offsets.specs.declared.refusal.PlanRefusal.{PlanRefusal}
+use Rattle.commit_offsets.specs.Reading.{plan_of_text}
+use Rattle.plan_certificate.specs.declared.verdict.Verdict.{Verdict}
+use Rattle.plan_certificate.specs.declared.verdict.Verdict.TheVariants as verdicts
+use Rattle.plan_certificate.specs.Says.{Says}
 use Rattle.schedule_replay.specs.declared.schedule.Schedule.{Schedule}
 use Rattle.schedule_replay.specs.Report.{report_of}
 use Rattle.helios_top.specs.declared.words.Command.{Command}
-use Rattle.helios_top.specs.declared.words.Command.TheVariants.{Replay}
-use Rattle.helios_top.specs.declared.ending.Refusal.TheVariants.{Unbuilt}
+use Rattle.helios_top.specs.declared.words.Command.TheVariants.{Check, Replay}
+use Rattle.helios_top.specs.declared.ending.Refusal.TheVariants.{OfPlan, Unbuilt}
 use Rattle.helios_top.specs.declared.ending.Answer.{Answer}
-use Rattle.helios_top.specs.declared.ending.Answer.TheVariants.{Printed, Refused}
+use Rattle.helios_top.specs.declared.ending.Answer.TheVariants.{Judged, Printed, Refused}
 use Rattle.helios_top.specs.Reading.{schedule_of}
 
 -- the report of the world that a schedule reaches
@@ -18,6 +26,24 @@ abbrev pub replay_answer : Option Schedule → Answer
 replay_answer None = Refused Unbuilt
 replay_answer (Some schedule) = Printed (report_for schedule)
 
+-- a plan that is called optimal is optimal
+abbrev pub IsProved : Setting → Verdict → Type 0
+IsProved plan (verdicts.Optimal total) = IsOptimal plan
+IsProved plan (verdicts.Short i j) = Unit {0}
+IsProved plan (verdicts.NoPairing i) = Unit {0}
+IsProved plan (verdicts.ValueDiffers given value) = Unit {0}
+
+-- the verdict on a plan and its pairing
+pub record IsVerdict (plan : Setting) (pair : List ℕ) (verdict : Verdict) : Type 0 where
+  pub says : Says plan pair verdict
+  pub proved : IsProved plan verdict
+
+-- `check` answers with the refusal of the text, or with the verdict on the plan that it says
+abbrev pub IsCheckAnswer : Result (Setting × Certificate) PlanRefusal → Answer → Type 0
+IsCheckAnswer (Err refusal) answer = answer ≡ Refused (OfPlan refusal)
+IsCheckAnswer (Ok read) answer = (verdict : Verdict) × (IsVerdict read.0 read.1.pair verdict × (answer ≡ Judged verdict))
+
 -- what a command answers to an input that it reads whole
-abbrev pub answer_to : Command → List ℕ → Answer
-answer_to Replay text = replay_answer (schedule_of text)
+abbrev pub IsAnswer : Command → List ℕ → Answer → Type 0
+IsAnswer Replay text answer = answer ≡ replay_answer (schedule_of text)
+IsAnswer Check text answer = IsCheckAnswer (plan_of_text text) answer

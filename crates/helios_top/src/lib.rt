@@ -2,6 +2,7 @@
 //! bytes of an input to one text or one line and an exit status.
 #![tactic(auto)]
 
+mod check;
 mod ending;
 mod json;
 mod reading;
