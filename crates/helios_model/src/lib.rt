@@ -19,5 +19,7 @@ pub mod plan;
 pub mod record;
 pub mod records;
 pub mod reply;
+#[cfg(test)]
+mod tests;
 mod texts;
 pub mod transaction;

@@ -87,14 +87,18 @@ impl Sink for MemSink {
     fn write(&mut self, from: &[u8]) -> Result<usize, Failed>
         ensures fails { IsErr result ↔
             (Contains self.old.fails self.old.calls ⊎ ((0 < length from.now) × (self.old.room ≡ 0))) }
-        ensures amount { IfOk result (λ n. n ≡ min self.old.piece (min (length from.now) self.old.room)) }
+        ensures amount { IfOk result (λ n.
+            n ≡ min self.old.piece (min (length from.now) self.old.room)) }
         ensures after { MatchResult result
             (λ n. self.new ≡ record self.old {
               taken = self.old.taken ++ take n from.now;
               room = self.old.room - n;
               calls = next_call self.old.calls;
             })
-            (λ _. self.new ≡ record self.old { calls = next_call self.old.calls; faults = next_fault self.old.faults }) }
+            (λ _. self.new ≡ record self.old {
+              calls = next_call self.old.calls;
+              faults = next_fault self.old.faults;
+            }) }
 
         ensures bound { IfOk result (λ n. n ≤ length from.now) }
         ensures progress { IfOk result (λ n. 0 < length from.now → 0 < n) }

@@ -39,7 +39,13 @@ impl Model for MemSource {
 impl MemSource {
     pub fn new(bytes: Vec<u8>, piece: usize, fails: Vec<u64>) -> MemSource
         requires { 0 < piece }
-        ensures { result ≡ record { left = bytes.items; piece = piece; fails = fails.items; calls = 0; faults = 0 } }
+        ensures { result ≡ record {
+          left = bytes.items;
+          piece = piece;
+          fails = fails.items;
+          calls = 0;
+          faults = 0;
+        } }
     {
         MemSource {
             unread: Unread::new(bytes),
@@ -70,12 +76,19 @@ impl Source for MemSource {
 
     fn read(&mut self, into: &mut [u8]) -> Result<usize, Failed>
         ensures fails { IsErr result ↔ Contains self.old.fails self.old.calls }
-        ensures amount { IfOk result (λ n. n ≡ min self.old.piece (min (length into.old) (length self.old.left))) }
+        ensures amount { IfOk result (λ n.
+            n ≡ min self.old.piece (min (length into.old) (length self.old.left))) }
         ensures given { IfOk result (λ n. into.new ≡ take n self.old.left ++ drop n into.old) }
         ensures untouched { OnErr result (into.new ≡ into.old) }
         ensures after { MatchResult result
-            (λ n. self.new ≡ record self.old { left = drop n self.old.left; calls = next_call self.old.calls })
-            (λ _. self.new ≡ record self.old { calls = next_call self.old.calls; faults = next_fault self.old.faults }) }
+            (λ n. self.new ≡ record self.old {
+              left = drop n self.old.left;
+              calls = next_call self.old.calls;
+            })
+            (λ _. self.new ≡ record self.old {
+              calls = next_call self.old.calls;
+              faults = next_fault self.old.faults;
+            }) }
 
         ensures bound { ReadsAtMost result into.new }
         ensures bytes { ReadConsumes (Some self.old.left) (Some self.new.left) result into.new }

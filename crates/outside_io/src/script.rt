@@ -27,8 +27,10 @@ impl Script {
 
     /// Counts one call, and says whether its number stands in the list.
     pub(crate) fn is_failing(&mut self) -> bool
-        ensures listed { IsTrue result ↔ Contains self.old.fails.items (unwrap_or self.old.next (2 ^ 64)) }
-        ensures next { unwrap_or self.new.next (2 ^ 64) ≡ next_call (unwrap_or self.old.next (2 ^ 64)) }
+        ensures listed { IsTrue result ↔
+            Contains self.old.fails.items (unwrap_or self.old.next (2 ^ 64)) }
+        ensures next { unwrap_or self.new.next (2 ^ 64)
+            ≡ next_call (unwrap_or self.old.next (2 ^ 64)) }
         ensures fails { self.new.fails.items ≡ self.old.fails.items }
         ensures faults { self.new.faults ≡ self.old.faults }
     {

@@ -46,7 +46,9 @@ impl<'a, R: Input> Source for StdSource<'a, R> {
     ghost faults = { λ s. s };
 
     fn read(&mut self, into: &mut [u8]) -> Result<usize, Failed>
-        ensures after { MatchResult result (λ _. self.new ≡ self.old) (λ _. self.new ≡ next_fault self.old) }
+        ensures after { MatchResult result
+            (λ _. self.new ≡ self.old)
+            (λ _. self.new ≡ next_fault self.old) }
 
         ensures bound { ReadsAtMost result into.new }
         ensures bytes { ReadConsumes None None result into.new }
@@ -111,7 +113,9 @@ impl<'a, R: Print> Sink for StdSink<'a, R> {
     ghost faults = { λ s. s };
 
     fn write(&mut self, from: &[u8]) -> Result<usize, Failed>
-        ensures after { MatchResult result (λ _. self.new ≡ self.old) (λ _. self.new ≡ next_fault self.old) }
+        ensures after { MatchResult result
+            (λ _. self.new ≡ self.old)
+            (λ _. self.new ≡ next_fault self.old) }
 
         ensures bound { IfOk result (λ n. n ≤ length from.now) }
         ensures progress { IfOk result (λ n. 0 < length from.now → 0 < n) }

@@ -55,10 +55,12 @@ pub fn read_whole<S: Source>(
     source: &mut S,
     limit: usize,
 ) -> Result<Option<Vec<u8>>, InputError>
-    ensures whole { IfOk result (λ found. IfSome found (λ v. IsWholeInput (S.left source.old) (S.left source.new) v.items)) }
+    ensures whole { IfOk result (λ found. IfSome found (λ v.
+        IsWholeInput (S.left source.old) (S.left source.new) v.items)) }
     ensures fits { IfOk result (λ found. IfSome found (λ v. vec_len v ≤ limit)) }
     ensures over { IfOk result (λ found. IfNone found (IsOverLimit limit (S.left source.old))) }
-    ensures failed { IsErrOf result InputError.Failed → Rose (S.faults source.old) (S.faults source.new) }
+    ensures failed { IsErrOf result InputError.Failed →
+        Rose (S.faults source.old) (S.faults source.new) }
     ensures later { S.faults source.old ≤ S.faults source.new }
     ensures count { IsCount (S.faults source.old) → IsCount (S.faults source.new) }
     ensures most { TakesAtMost (limit + 1) (S.left source.old) (S.left source.new) }
@@ -87,13 +89,15 @@ fn read_piece<S: Source>(
     bytes: &mut Vec<u8>,
 ) -> Result<usize, InputError>
     requires { most ≤ length buffer.old }
-    ensures gives { IfOk result (λ n. HasGrown (S.left source.old) (S.left source.new) bytes.old.items bytes.new.items n) }
-    ensures count { IfOk result (λ n. (n ≤ most) × (vec_len bytes.new ≡ vec_len bytes.old + n)) }
+    ensures gives { IfOk result (λ n.
+        HasGrown (S.left source.old) (S.left source.new) bytes.old.items bytes.new.items n) }
+    ensures len { IfOk result (λ n. (n ≤ most) × (vec_len bytes.new ≡ vec_len bytes.old + n)) }
     ensures end { IfOk result (λ n. n ≡ 0 → 0 < most → IsAtEnd (S.left source.new)) }
     ensures most { TakesAtMost most (S.left source.old) (S.left source.new) }
-    ensures failed { IsErrOf result InputError.Failed → Rose (S.faults source.old) (S.faults source.new) }
+    ensures failed { IsErrOf result InputError.Failed →
+        Rose (S.faults source.old) (S.faults source.new) }
     ensures later { S.faults source.old ≤ S.faults source.new }
-    ensures fits { IsCount (S.faults source.new) }
+    ensures count { IsCount (S.faults source.new) }
     ensures tells { StaysTold (S.left source.old) (S.left source.new) }
 {
     let piece = &mut buffer[..most];

@@ -1,2 +1,5 @@
 pub mod Rests
 pub mod Limits
+pub mod Grows
+pub mod Stands
+pub mod Reaches

@@ -1,4 +1,4 @@
-use Rattle.std.proofs.Common.{◌≡◌, ℕ, List, [], ◌∷◌, map, refl}
+use Rattle.std.proofs.Common.{All, ◌<◌, length, get_or, ◌≡◌, ℕ, List, [], ◌∷◌, map, refl}
 use Rattle.std.specs.List.{list_any}
 use Rattle.std.proofs.lemmas.List.{length-map}
 use Rattle.helios_model.specs.declared.items.ReadItem.{ReadItem}
@@ -8,6 +8,10 @@ use Rattle.helios_model.specs.declared.record.Record.{Record}
 use Rattle.helios_model.specs.Distinct.{all_differ, same_text}
 use Rattle.helios_model.specs.TransactionLimits.{IsTransaction, IsAsk}
 use Rattle.helios_model.specs.Request.{write_at}
+use Rattle.schedule_replay.specs.declared.reads.PlannedRead.{PlannedRead}
+use Rattle.schedule_replay.specs.declared.inputs.Planned.{Planned}
+use Rattle.schedule_replay.specs.Planning.{read_for}
+use Rattle.schedule_replay.specs.Replayable.{IsPlannedRequest, IsPlannedInput}
 
 -- a map that keeps each item's text keeps whether the texts differ
 pub any_mapped : {X Y : Type 0} (f : X → Y) (key : X → List ℕ) (key' : Y → List ℕ) → ((x : X) → key' (f x) ≡ key x) → (t : List ℕ) (xs : List X)
@@ -30,3 +34,17 @@ is_transaction log reads puts writes ask e =
       reads_differ = ask.reads_differ;
       writes_differ = rw same ask.puts_differ;
     })
+
+pub is_ask : (log : List Record) (reads : List PlannedRead) (puts : List PutItem) (items : List ReadItem)
+    → IsPlannedRequest reads puts → items ≡ map (read_for log) reads → IsAsk items puts
+is_ask log reads puts items planned e =
+    let same : all_differ (λ r. r.key) (map (read_for log) reads) ≡ all_differ (λ r. r.key) reads = differ_mapped (read_for log) (λ r. r.key) (λ r. r.key) (λ x. refl) reads in
+    rw e (record {
+      few_reads = rw length-map planned.few_reads;
+      few_puts = planned.few_puts;
+      reads_differ = rw same planned.reads_differ;
+      puts_differ = planned.puts_differ;
+    })
+
+pub planned_at : (inputs : List Planned) (i : ℕ) (d : Planned) → All IsPlannedInput inputs → i < length inputs → IsPlannedInput (get_or inputs i d)
+planned_at inputs i d all low = all i d low

@@ -1,9 +1,18 @@
-use Rattle.std.proofs.Common.{◌≡◌, ℕ, ◌+◌, ◌<◌, List, ◌∷◌, length, get_or, drop, refl, Option, filter, find, fold, map}
-use Rattle.std.specs.List.{filter_map}
+use Rattle.std.proofs.Common.{◌≡◌, ◌∙◌, ap, sym, append_assoc, ◌++◌, Bool, true, false, ℕ, ◌+◌, ◌<◌, List, ◌∷◌, length, get_or, drop, refl, Option, Some, None, filter, find, fold, map}
+use Rattle.std.specs.List.{cons_option, filter_map, flat_map}
+use Rattle.std.specs.Option.{option_to_list}
+use Rattle.schedule_replay.specs.Scan.{own_commit_in, own_event}
 use Rattle.std.proofs.lemmas.List.{drop_more}
 use Rattle.helios_model.specs.declared.ids.TxnId.{TxnId}
 use Rattle.helios_model.specs.declared.ids.Version.{Version}
 use Rattle.helios_model.specs.declared.record.Record.{Record}
+use Rattle.helios_model.specs.declared.input.Entry.{Entry}
+use Rattle.helios_model.specs.declared.commits.CommitEvent.{CommitEvent}
+use Rattle.helios_model.specs.Step.{after_entries}
+use Rattle.helios_model.specs.World.{is_own_commit, replies}
+use Rattle.schedule_replay.specs.Held.{Held}
+use Rattle.schedule_replay.specs.Report.{commit_line, refusals_in, site_line}
+use Rattle.schedule_replay.specs.Standing.{reply_lines}
 use Rattle.helios_model.specs.Ids.{same_id}
 use Rattle.helios_model.specs.Transaction.{Transaction}
 use Rattle.helios_model.specs.Conflict.{conflict}
@@ -52,3 +61,60 @@ ready_rest plan n rest = map (λ p. p.id) (filter (λ p. is_reached plan n p.id.
 pub ready_drop : (plan : Setting) (n : Node) (log : List Record) (i : ℕ) (d : Record) → i < length log
     → ready_rest plan n (drop i log) ≡ ready_rest plan n (get_or log i d ∷ drop (i + 1) log)
 ready_drop plan n log i d h = rw (drop_more log i d h) refl
+
+pub after_drop : (plan : Setting) (n : Node) (entries : List Entry) (i : ℕ) (d : Entry) → i < length entries
+    → after_entries plan n (drop i entries) ≡ after_entries plan n (get_or entries i d ∷ drop (i + 1) entries)
+after_drop plan n entries i d h = rw (drop_more entries i d h) refl
+
+abbrev pub lines_rest : ℕ → Setting → Node → List Entry → List ℕ
+lines_rest number plan n entries = reply_lines number (replies plan n entries)
+
+pub lines_drop : (number : ℕ) (plan : Setting) (n : Node) (entries : List Entry) (i : ℕ) (d : Entry) → i < length entries
+    → lines_rest number plan n (drop i entries) ≡ lines_rest number plan n (get_or entries i d ∷ drop (i + 1) entries)
+lines_drop number plan n entries i d h = rw (drop_more entries i d h) refl
+
+abbrev pub refusals_rest : Setting → Node → List Entry → ℕ
+refusals_rest plan n entries = refusals_in (replies plan n entries)
+
+pub refusals_drop : (plan : Setting) (n : Node) (entries : List Entry) (i : ℕ) (d : Entry) → i < length entries
+    → refusals_rest plan n (drop i entries) ≡ refusals_rest plan n (get_or entries i d ∷ drop (i + 1) entries)
+refusals_drop plan n entries i d h = rw (drop_more entries i d h) refl
+
+abbrev pub events_rest : ℕ → List Record → List Record → List CommitEvent
+events_rest site log rest = filter (is_own_commit site) (filter_map (commit_in log) rest)
+
+own_first : (site : ℕ) (e : CommitEvent) (es : List CommitEvent) (own : Bool) → is_own_commit site e ≡ own
+    → filter (is_own_commit site) (e ∷ es) ≡ option_to_list (own_event site (Some e)) ++ filter (is_own_commit site) es
+own_first site e es true is = rw is refl
+own_first site e es false is = rw is refl
+
+event_first : (site : ℕ) (o : Option CommitEvent) (es : List CommitEvent)
+    → filter (is_own_commit site) (cons_option o es) ≡ option_to_list (own_event site o) ++ filter (is_own_commit site) es
+event_first site None es = refl
+event_first site (Some e) es = own_first site e es (is_own_commit site e) refl
+
+pub events_drop : (site : ℕ) (log rest : List Record) (i : ℕ) (d : Record) → i < length rest
+    → events_rest site log (drop i rest) ≡ option_to_list (own_commit_in site log (get_or rest i d)) ++ events_rest site log (drop (i + 1) rest)
+events_drop site log rest i d h = rw (drop_more rest i d h) (event_first site (commit_in log (get_or rest i d)) (filter_map (commit_in log) (drop (i + 1) rest)))
+
+pub commit_lines_drop : (events : List CommitEvent) (i : ℕ) (d : CommitEvent) → i < length events
+    → flat_map commit_line (drop i events) ≡ commit_line (get_or events i d) ++ flat_map commit_line (drop (i + 1) events)
+commit_lines_drop events i d h = rw (drop_more events i d h) refl
+
+abbrev pub core_line : Held → List ℕ
+core_line h = site_line h.plan h.node
+
+pub site_lines_drop : (cores : List Held) (i : ℕ) (d : Held) → i < length cores
+    → flat_map core_line (drop i cores) ≡ core_line (get_or cores i d) ++ flat_map core_line (drop (i + 1) cores)
+site_lines_drop cores i d h = rw (drop_more cores i d h) refl
+
+-- one more record's commit, where the rest of the records gives the rest of the events
+pub events_push : (site : ℕ) (log rest : List Record) (i : ℕ) (r : Record) → i < length rest → r ≡ get_or rest i r
+    → (commits commits' total : List CommitEvent) → commits' ≡ commits ++ option_to_list (own_commit_in site log r)
+    → commits ++ events_rest site log (drop i rest) ≡ total → commits' ++ events_rest site log (drop (i + 1) rest) ≡ total
+events_push site log rest i r low is commits commits' total pushed so_far =
+    ap (λ cs. cs ++ events_rest site log (drop (i + 1) rest)) pushed
+    ∙ append_assoc commits (option_to_list (own_commit_in site log r)) (events_rest site log (drop (i + 1) rest))
+    ∙ ap (λ x. commits ++ (option_to_list (own_commit_in site log x) ++ events_rest site log (drop (i + 1) rest))) is
+    ∙ ap (λ es. commits ++ es) (sym (events_drop site log rest i r low))
+    ∙ so_far

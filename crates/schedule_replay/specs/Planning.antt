@@ -1,4 +1,4 @@
-use Rattle.std.specs.Prelude.{ℕ, List, map, fold}
+use Rattle.std.specs.Prelude.{ℕ, List, [], ◌∷◌, map, fold}
 use Rattle.helios_model.specs.declared.ids.Version.{Version}
 use Rattle.helios_model.specs.declared.items.ReadItem.{ReadItem}
 use Rattle.helios_model.specs.declared.input.Entry.{Entry}
@@ -30,6 +30,13 @@ entry_for log (Request at reads puts) = record { reading = at; input = Inputs.Re
 abbrev pub entries_for : List Record → List Planned → List Entry
 entries_for log inputs = map (entry_for log) inputs
 
+-- the site and the inputs of a planned batch
+abbrev pub site_of : Step → ℕ
+site_of (Steps.Batch site inputs) = site
+
+abbrev pub inputs_of : Step → List Planned
+inputs_of (Steps.Batch site inputs) = inputs
+
 -- the step of the world that a planned step is
 abbrev pub event_for : Setting → World → Step → Event
 event_for plan w (Steps.Batch site inputs) = Batch site (entries_for (node_of plan w site).log inputs) Done
@@ -40,3 +47,8 @@ after_step plan w s = happens plan w (event_for plan w s)
 -- the world that the steps reach, one after the other
 abbrev pub after_steps : Setting → World → List Step → World
 after_steps plan w steps = fold (after_step plan) w steps
+
+-- the same as a list of steps of the world, each as it is meant in the world that the ones before it reach
+abbrev pub events_for : Setting → World → List Step → List Event
+events_for plan w [] = []
+events_for plan w (s ∷ ss) = event_for plan w s ∷ events_for plan (after_step plan w s) ss

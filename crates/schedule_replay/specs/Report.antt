@@ -18,7 +18,7 @@ line_end = 10 ∷ []
 abbrev pub reply_text : Reply → List ℕ
 reply_text (Prepared id) = codes "prepared " ++ id_text id
 reply_text (Committed id) = codes "committed " ++ id_text id
-reply_text (Overwritten key version) = codes "overwritten " ++ key ++ codes " " ++ version_text version
+reply_text (Overwritten key version) = codes "overwritten " ++ key ++ (codes " " ++ version_text version)
 reply_text (Conflict id) = codes "conflict " ++ id_text id
 reply_text ClockSpent = codes "clock-spent"
 reply_text PoolFull = codes "pool-full"

@@ -4,7 +4,9 @@ use Rattle.helios_model.specs.declared.record.Record.{Record}
 use Rattle.helios_model.specs.declared.record.Record.TheVariants.{Prepare, Commit, Abort}
 use Rattle.helios_model.specs.Ids.{same_id}
 use Rattle.helios_model.specs.Transaction.{Transaction}
-use Rattle.helios_model.specs.Log.{finished, prepare_of}
+use Rattle.helios_model.specs.declared.commits.CommitEvent.{CommitEvent}
+use Rattle.helios_model.specs.Log.{commit_in, finished, prepare_of}
+use Rattle.helios_model.specs.World.{is_own_commit}
 use Rattle.helios_model.specs.Setting.{Setting}
 use Rattle.helios_model.specs.Node.{Node, is_own}
 use Rattle.helios_model.specs.Settle.{is_reached}
@@ -41,3 +43,11 @@ reached_only plan n (Some p) = if is_reached plan n p.id.time then Some p.id els
 -- the id of a record's transaction, where it is an own one that commits now
 abbrev pub ready_in : Setting → Node → Record → Option TxnId
 ready_in plan n r = reached_only plan n (own_open_in n.log n.site r)
+
+abbrev pub own_event : ℕ → Option CommitEvent → Option CommitEvent
+own_event site None = None
+own_event site (Some e) = if is_own_commit site e then Some e else None
+
+-- the commit event of a record of a log, where it is an own Commit
+abbrev pub own_commit_in : ℕ → List Record → Record → Option CommitEvent
+own_commit_in site log r = own_event site (commit_in log r)

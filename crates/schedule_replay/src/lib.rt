@@ -4,11 +4,15 @@
 
 pub mod input_lists;
 pub mod inputs;
+mod lines;
 mod node;
 pub mod planned;
+mod planning;
 pub mod reads;
+pub mod replay;
 mod requests;
 mod scan;
 pub mod schedule;
+mod sites;
 pub mod step_lists;
 pub mod steps;

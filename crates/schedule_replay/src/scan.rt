@@ -1,19 +1,21 @@
 // Look-ups in a whole log.
-ghost use Rattle.std.specs.Prelude.{◌≡◌, ℕ, ◌↔◌, IsTrue, filter, length};
+ghost use Rattle.std.specs.Prelude.{◌≡◌, IfOk, filter, length};
 ghost use Rattle.std.specs.Option.{option_map};
 ghost use Rattle.helios_model.specs.Conflict.{writes_key};
 ghost use Rattle.helios_model.specs.Ids.{same_id, same_version};
-ghost use Rattle.helios_model.specs.Log.{ends, finished, prepare_of, commit_in, current, unfinished};
+ghost use Rattle.helios_model.specs.Log.{current, ends, event_at, finished, prepare_of, unfinished};
 ghost use Rattle.helios_model.specs.Node.{is_own};
 ghost use Rattle.helios_model.specs.Request.{clash, stale_read};
-ghost use Rattle.schedule_replay.specs.Scan.{named_in, transaction_in, open_in, own_open_in};
+ghost use Rattle.schedule_replay.specs.Scan.{named_in, open_in, own_commit_in, own_event, own_open_in, transaction_in};
 
+use helios_model::commits::CommitEvent;
 use helios_model::conflicts::conflicts;
-use helios_model::ids::{SiteId, TxnId, Version};
+use helios_model::ids::{SiteId, Time, TxnId, Version};
 use helios_model::items::ReadItem;
 use helios_model::keys::Key;
 use helios_model::record::Record;
 use helios_model::transaction::Prepare;
+use std::alloc::AllocError;
 
 fn is_same_version(a: &Version, b: &Version) -> bool
     ensures { result ≡ same_version a.now b.now }
@@ -158,4 +160,32 @@ pub(crate) fn first_stale<'a>(log: &[Record], reads: &'a [ReadItem]) -> Option<&
     ensures { option_map (λ r. r.now) result ≡ stale_read log.now reads.now }
 {
     reads.iter().find(|r| !is_same_version(&r.version, &current_version(log, &r.key)))
+}
+
+/// The commit event of a record of a log, where it is an own Commit.
+pub(crate) fn own_commit(
+    log: &[Record],
+    r: &Record,
+    site: SiteId,
+) -> Result<Option<CommitEvent>, AllocError>
+    ensures { IfOk result (λ found. found ≡ own_commit_in site log.now r.now) }
+{
+    match r {
+        Record::Commit { id, time } => match find_prepare(log, id) {
+            Some(p) => event_of(p, *time, site),
+            None => Ok(None),
+        },
+        _ => Ok(None),
+    }
+}
+
+fn event_of(p: &Prepare, time: Time, site: SiteId) -> Result<Option<CommitEvent>, AllocError>
+    ensures { IfOk result (λ found. found ≡ own_event site (Some (event_at time p.now))) }
+{
+    if p.id().site == site {
+        let prepare = p.copy()?;
+        Ok(Some(CommitEvent { prepare, time }))
+    } else {
+        Ok(None)
+    }
 }

@@ -1,9 +1,9 @@
-use Rattle.std.proofs.Common.{◌≡◌, ◌≢◌, ◌∙◌, ap, refl, sym, subst, ℕ, suc, zero, ◌+◌, ◌<◌, Bool, true, false, not, ◌&&◌, ◌||◌, cond, ◌⊎◌, inl, inr, Option, Some, None, is_some, List, [], ◌∷◌, ◌++◌, length, get_or, filter, filter_map, find, All, AllPairs, Contains, arith}
+use Rattle.std.proofs.Common.{◌≡◌, ◌∙◌, ap, refl, sym, subst, suc, ◌<◌, Bool, true, false, not, ◌&&◌, ◌||◌, ◌⊎◌, inl, inr, Option, Some, None, is_some, List, [], ◌∷◌, ◌++◌, get_or, filter, filter_map, find, All, AllPairs, Contains, arith}
 use Rattle.std.specs.List.{list_any, cons_option}
-use Rattle.std.proofs.lemmas.List.{get_or_default, same_from_push}
-use Rattle.std.proofs.lemmas.List.Elements.{All-nil, All-cons, All-head, All-tail, All-contains_itself, All-contains, Contains-append_cases, Contains-push_cases, Contains-append_left, Contains-append_right}
+use Rattle.std.proofs.lemmas.List.{get_or_default}
+use Rattle.std.proofs.lemmas.List.Elements.{All-nil, All-cons, All-head, All-tail, All-contains_itself, All-contains, Contains-append_cases, Contains-push_cases, Contains-append_right}
 use Rattle.std.proofs.lemmas.List.Folds.{list_any_at, Any-from_list_any}
-use Rattle.std.proofs.lemmas.Bool.{cases_Bool, both_ways, or_parts, cond-true, cond-false, cases_order}
+use Rattle.std.proofs.lemmas.Bool.{cases_Bool, both_ways, or_parts, cases_order}
 
 pub or_false : (b : Bool) → (b || false) ≡ b
 or_false true = refl
@@ -28,6 +28,7 @@ contains_cases {X = X} y xs x h = by_part (Contains-append_cases (y ∷ []) xs x
     by_end : Contains [] x ⊎ (y ≡ x) → (y ≡ x) ⊎ Contains xs x
     by_end (inl none) = absurd (contains_nothing x none)
     by_end (inr same) = inl same
+
     by_part : Contains (y ∷ []) x ⊎ Contains xs x → (y ≡ x) ⊎ Contains xs x
     by_part (inl one) = by_end (Contains-push_cases [] y x one)
     by_part (inr more) = inr more
@@ -101,6 +102,7 @@ contains_from_filter {X = X} p (y ∷ ys) x h = by_test (cases_Bool (p y)) (cont
     by_case : p y ≡ true → (y ≡ x) ⊎ Contains (filter p ys) x → (Contains (filter p ys) x → Contains ys x × (p x ≡ true)) → Contains (y ∷ ys) x × (p x ≡ true)
     by_case kept (inl same) later = (subst (λ z. Contains (y ∷ ys) z) same (contains_here y ys), ap p (sym same) ∙ kept)
     by_case kept (inr more) later = let found = later more in (contains_later y ys x found.0, found.1)
+
     by_test : (p y ≡ true) ⊎ (p y ≡ false) → (Contains (filter p ys) x → Contains ys x × (p x ≡ true)) → Contains (y ∷ ys) x × (p x ≡ true)
     by_test (inl kept) later =
         let there : Contains (y ∷ filter p ys) x = rw kept at h in
@@ -117,6 +119,7 @@ contains_filter_map {X = X} {Y = Y} h (a ∷ rest) x y there gives = by_case (co
     by_option : (o : Option Y) → Contains (filter_map h rest) y → Contains (cons_option o (filter_map h rest)) y
     by_option None later = later
     by_option (Some b) later = contains_later b (filter_map h rest) y later
+
     by_case : (a ≡ x) ⊎ Contains rest x → (Contains rest x → Contains (filter_map h rest) y) → Contains (filter_map h (a ∷ rest)) y
     by_case (inl same) later =
         let here : h a ≡ Some y = ap h same ∙ gives in
@@ -129,10 +132,12 @@ contains_from_filter_map {X = X} {Y = Y} h (a ∷ rest) y there = by_option (h a
   where
     after : (x : X) × Contains rest x × (h x ≡ Some y) → (x : X) × Contains (a ∷ rest) x × (h x ≡ Some y)
     after f = (f.0, contains_later a rest f.0 f.1, f.2)
+
     by_case : (b : Y) → h a ≡ Some b → (b ≡ y) ⊎ Contains (filter_map h rest) y → (Contains (filter_map h rest) y → (x : X) × Contains rest x × (h x ≡ Some y))
         → (x : X) × Contains (a ∷ rest) x × (h x ≡ Some y)
     by_case b e (inl same) later = (a, contains_here a rest, e ∙ ap Some same)
     by_case b e (inr more) later = after (later more)
+
     by_option : (o : Option Y) → h a ≡ o → Contains (cons_option o (filter_map h rest)) y → (Contains (filter_map h rest) y → (x : X) × Contains rest x × (h x ≡ Some y))
         → (x : X) × Contains (a ∷ rest) x × (h x ≡ Some y)
     by_option None e here later = after (later here)
@@ -167,8 +172,10 @@ pairs_cases {X = X} R xs x y h a b = by_order (cases_order a.0 b.0)
   where
     at_y : (d : X) → get_or xs b.0 d ≡ y
     at_y d = get_or_default xs b.0 d y b.1 ∙ b.2
+
     at_x : (d : X) → get_or xs a.0 d ≡ x
     at_x d = get_or_default xs a.0 d x a.1 ∙ a.2
+
     by_order : (a.0 ≡ b.0) ⊎ ((a.0 < b.0) ⊎ (b.0 < a.0)) → (x ≡ y) ⊎ (R x y ⊎ R y x)
     by_order (inl same) = inl (sym (at_x x) ∙ ap (λ k. get_or xs k x) same ∙ at_y x)
     by_order (inr (inl less)) = inr (inl (subst (λ z. R z y) (at_x x) (subst (λ z. R (get_or xs a.0 x) z) (at_y x) (h a.0 b.0 x less b.1))))

@@ -1,4 +1,4 @@
-use Rattle.std.proofs.Common.{◌≡◌, ◌∙◌, refl, ℕ, ◌+◌, ◌*◌, Bool, true, false, ◌&&◌, Option, Some, None, List, [], ◌∷◌, fold, map, filter, flat_map, length, replicate}
+use Rattle.std.proofs.Common.{◌≡◌, ◌∙◌, refl, ℕ, ◌+◌, ◌*◌, Bool, true, false, ◌&&◌, Option, Some, None, List, [], ◌∷◌, fold, flat_map, length}
 use Rattle.std.proofs.lemmas.List.{length-set, length-replicate}
 use Rattle.helios_model.specs.declared.ids.TxnId.{TxnId}
 use Rattle.helios_model.specs.declared.items.ReadItem.{ReadItem}
@@ -9,26 +9,26 @@ use Rattle.helios_model.specs.declared.record.Record.TheVariants.{Prepare, Commi
 use Rattle.helios_model.specs.Setting.{Setting, count_of}
 use Rattle.helios_model.specs.Transaction.{Transaction}
 use Rattle.helios_model.specs.Node.{Node, empty_node, clock, with_clock, with_record, is_spent}
-use Rattle.helios_model.specs.Settle.{commit_one, ready, settle}
+use Rattle.helios_model.specs.Settle.{commit_one, ready}
 use Rattle.helios_model.specs.Request.{entered, by_clash, by_stale, by_room, clash, stale_read, asked, next_id, is_full}
 use Rattle.helios_model.specs.Step.{by_clock, is_journaled, after_entry, after_entries}
-use Rattle.helios_model.specs.World.{World, Event, MayRun, first_world, node_of, journal_of, run, happens}
+use Rattle.helios_model.specs.World.{World, Event, first_world, node_of, journal_of, run, happens}
 use Rattle.helios_model.specs.World.Event.{Batch}
 use Rattle.helios_model.specs.World.Ending.{Done}
-use Rattle.helios_model.specs.Laws.Placed.{IsPlaced, IsPlacedWorld, EachNodeIsPlaced}
+use Rattle.helios_model.specs.Laws.Placed.{IsPlaced, EachNodeIsPlaced}
 use Rattle.helios_model.proofs.LawProofs.Worlds.{first_journals, journals_stay}
 
 pub placed_clock : (plan : Setting) (site : ℕ) (n : Node) (time : ℕ) → IsPlaced plan site n → IsPlaced plan site (with_clock plan n time)
 placed_clock plan site n time h = record {
-    at_site = h.at_site;
-    sized = length-set n.table (n.site * count_of plan + n.site) time ∙ h.sized;
-  }
+  at_site = h.at_site;
+  sized = length-set n.table (n.site * count_of plan + n.site) time ∙ h.sized;
+}
 
 pub placed_commits : (plan : Setting) (site : ℕ) (n : Node) (ids : List TxnId) → IsPlaced plan site n → IsPlaced plan site (fold (commit_one plan) n ids)
 placed_commits plan site n [] h = h
 placed_commits plan site n (id ∷ ids) h =
     placed_commits plan site (commit_one plan n id) ids
-      (placed_clock plan site (with_record n (Commit id (clock plan n + 1))) (clock plan n + 1) (record { at_site = h.at_site; sized = h.sized }))
+    (placed_clock plan site (with_record n (Commit id (clock plan n + 1))) (clock plan n + 1) (record { at_site = h.at_site; sized = h.sized }))
 
 pub placed_entered : (plan : Setting) (site : ℕ) (n : Node) (p : Transaction) → IsPlaced plan site n → IsPlaced plan site (entered plan n p)
 placed_entered plan site n p h = placed_clock plan site (with_record n (Prepare p)) p.id.time (record { at_site = h.at_site; sized = h.sized })
@@ -57,13 +57,13 @@ pub placed_entries : (plan : Setting) (site : ℕ) (n : Node) (entries : List En
 placed_entries plan site n [] h = h
 placed_entries plan site n (e ∷ es) h =
     placed_entries plan site (after_entry plan n e) es
-      (placed_by_clock plan site n e.reading e.input (is_journaled e.input && is_spent plan n) h)
+    (placed_by_clock plan site n e.reading e.input (is_journaled e.input && is_spent plan n) h)
 
 -- in every world whatever, the node of a site is its own, and its table has its size
 pub node_placed : (plan : Setting) (w : World) (k : ℕ) → IsPlaced plan k (node_of plan w k)
 node_placed plan w k =
     placed_entries plan k (empty_node plan k) (flat_map (λ batch. batch) (journal_of w k))
-      (record { at_site = refl; sized = length-replicate (count_of plan * count_of plan) 0 })
+    (record { at_site = refl; sized = length-replicate (count_of plan * count_of plan) 0 })
 
 pub run_journals : (plan : Setting) (w : World) (events : List Event) → length (run plan w events).journals ≡ length w.journals
 run_journals plan w [] = refl
@@ -71,6 +71,6 @@ run_journals plan w (Batch site entries Done ∷ es) = run_journals plan (happen
 
 pub each_node_is_placed : EachNodeIsPlaced
 each_node_is_placed plan events may = record {
-    journals = run_journals plan (first_world plan) events ∙ first_journals plan;
-    nodes = λ k. node_placed plan (run plan (first_world plan) events) k;
-  }
+  journals = run_journals plan (first_world plan) events ∙ first_journals plan;
+  nodes = λ k. node_placed plan (run plan (first_world plan) events) k;
+}

@@ -1,14 +1,14 @@
-use Rattle.std.proofs.Common.{◌≡◌, ◌≢◌, ◌∙◌, ap, refl, sym, subst, ℕ, ◌+◌, ◌*◌, ◌<◌, Bool, true, false, ◌&&◌, ◌⊎◌, inl, inr, List, [], ◌∷◌, ◌++◌, length, get_or, set, replicate, filter, filter_map, fold, flat_map, arith}
+use Rattle.std.proofs.Common.{◌≡◌, ◌≢◌, ◌∙◌, ap, refl, sym, ℕ, ◌<◌, true, false, ◌&&◌, ◌⊎◌, inl, inr, List, [], ◌∷◌, ◌++◌, length, flat_map}
 use Rattle.std.proofs.lemmas.List.{append-nil, length-set, length-replicate, get_or-set_same, get_or-set_other, get_or-replicate}
 use Rattle.std.proofs.lemmas.Grind.{flat_map-append, fold-append}
-use Rattle.std.proofs.lemmas.Bool.{cases_Bool, both_ways}
+use Rattle.std.proofs.lemmas.Bool.{cases_Bool}
 use Rattle.helios_model.specs.declared.input.Entry.{Entry}
 use Rattle.helios_model.specs.declared.input.Input.{Input}
 use Rattle.helios_model.specs.declared.input.Input.TheVariants.{Request}
 use Rattle.helios_model.specs.Setting.{Setting, count_of}
 use Rattle.helios_model.specs.Node.{Node, empty_node, is_spent}
 use Rattle.helios_model.specs.Step.{is_journaled, by_clock, after_entry, after_entries}
-use Rattle.helios_model.specs.World.{World, first_world, journal_of, node_of, journaled, grown, done, happens, Event, Ending}
+use Rattle.helios_model.specs.World.{World, first_world, journal_of, node_of, journaled, grown, happens}
 use Rattle.helios_model.specs.World.Event.{Batch}
 use Rattle.helios_model.specs.World.Ending.{Done}
 
@@ -48,14 +48,14 @@ pub node_here : (plan : Setting) (w : World) (site : ℕ) (entries : List Entry)
     → node_of plan (happens plan w (Batch site entries Done)) site ≡ after_entries plan (node_of plan w site) entries
 node_here plan w site entries low =
     rw (journal_here plan w site entries low, grown_entries (journal_of w site) (journaled entries), fold-append)
-      (journaled_alone plan (node_of plan w site) entries)
+    (journaled_alone plan (node_of plan w site) entries)
 
 -- the other nodes stay
 pub node_elsewhere : (plan : Setting) (w : World) (site other : ℕ) (entries : List Entry) → other ≢ site
     → node_of plan (happens plan w (Batch site entries Done)) other ≡ node_of plan w other
 node_elsewhere plan w site other entries apart =
     ap (λ batches. after_entries plan (empty_node plan other) (flat_map (λ batch. batch) batches))
-      (get_or-set_other w.journals site other (grown (journal_of w site) (journaled entries)) [] apart)
+    (get_or-set_other w.journals site other (grown (journal_of w site) (journaled entries)) [] apart)
 
 pub first_journals : (plan : Setting) → length (first_world plan).journals ≡ count_of plan
 first_journals plan = length-replicate (count_of plan) []

@@ -1,4 +1,4 @@
-use Rattle.std.specs.Prelude.{◌≡◌, ℕ, ◌*◌, ◌<◌, length}
+use Rattle.std.specs.Prelude.{◌≡◌, ℕ, ◌*◌, length}
 use Rattle.helios_model.specs.Setting.{Setting, count_of}
 use Rattle.helios_model.specs.Node.{Node}
 use Rattle.helios_model.specs.World.{World, node_of}

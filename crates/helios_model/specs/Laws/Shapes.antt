@@ -1,4 +1,4 @@
-use Rattle.std.specs.Prelude.{◌≡◌, ℕ, ◌<◌, List, ◌∷◌, ◌++◌, AllPairs}
+use Rattle.std.specs.Prelude.{◌≡◌, ◌<◌, List, ◌∷◌, ◌++◌, AllPairs}
 use Rattle.helios_model.specs.declared.record.Record.{Record}
 use Rattle.helios_model.specs.Log.{origin, own_time}
 

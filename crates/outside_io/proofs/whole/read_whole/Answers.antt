@@ -36,6 +36,6 @@ loop-buffer-preserved g c = record {
   tells = c.in_ok-count.ensures.tells ∙ c.loop-buffer.invariant.tells;
   fits = omega arith;
   later = omega (arith, c.in_ok-count.ensures.later, c.loop-buffer.invariant.later);
-  count = λ _. c.in_ok-count.ensures.fits;
+  count = λ _. c.in_ok-count.ensures.count;
   room = omega arith;
 }

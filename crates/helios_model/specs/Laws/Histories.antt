@@ -1,0 +1,90 @@
+use Rattle.std.specs.Prelude.{◌≡◌, ℕ, ◌<◌, List, [], ◌∷◌, ◌++◌, length, take, filter, All, Contains}
+use Rattle.helios_model.specs.declared.ids.TxnId.{TxnId}
+use Rattle.helios_model.specs.declared.input.Input.{Input}
+use Rattle.helios_model.specs.declared.input.Input.TheVariants.{Request}
+use Rattle.helios_model.specs.declared.reply.Reply.{Reply}
+use Rattle.helios_model.specs.declared.reply.Reply.TheVariants.{Prepared, Committed, Overwritten, Conflict, ClockSpent, PoolFull}
+use Rattle.helios_model.specs.declared.record.Record.{Record}
+use Rattle.helios_model.specs.declared.record.Record.TheVariants.{Prepare}
+use Rattle.helios_model.specs.declared.commits.CommitEvent.{CommitEvent}
+use Rattle.helios_model.specs.Asking.{Asking}
+use Rattle.helios_model.specs.Setting.{Setting, IsAccepted, count_of}
+use Rattle.helios_model.specs.Log.{commits}
+use Rattle.helios_model.specs.Request.{asked}
+use Rattle.helios_model.specs.Serial.{IsSerial}
+use Rattle.helios_model.specs.NamedAbort.{ToldIsNamed}
+use Rattle.helios_model.specs.World.{World, Told, Event, MayRun, first_world, node_of, is_own_commit, run}
+use Rattle.helios_model.specs.World.Event.{Batch}
+use Rattle.helios_model.specs.Laws.Reached.{InEachWorld}
+
+-- each batch is of this site
+abbrev pub AreAt : ℕ → List Event → Type 0
+AreAt site [] = Unit {0}
+AreAt site (Batch here entries ending ∷ events) = (here ≡ site) × AreAt site events
+
+-- where all batches are of one site, the history is a serial one, whatever the plan
+abbrev pub SerialAtOneSite : Type 0
+SerialAtOneSite = (plan : Setting) (site : ℕ) → site < count_of plan → (events : List Event) → AreAt site events
+    → MayRun plan (first_world plan) events → IsSerial (run plan (first_world plan) events).history
+
+-- the history is a serial one in each world of an accepted plan
+abbrev pub HistoryIsSerial : Type 0
+HistoryIsSerial = InEachWorld (λ plan w. IsAccepted plan → IsSerial w.history)
+
+-- the events of each site are, in order, the own Commits of its log, and there are no others
+pub record HistoryIsCommits (plan : Setting) (w : World) : Type 0 where
+  pub own : (k : ℕ) → k < count_of plan
+      → filter (is_own_commit k) w.history ≡ filter (is_own_commit k) (commits (node_of plan w k).log)
+  pub sites : All (λ e. e.prepare.id.site < count_of plan) w.history
+
+abbrev pub EachHistoryIsCommits : Type 0
+EachHistoryIsCommits = InEachWorld HistoryIsCommits
+
+abbrev pub EachRefusalIsNamed : Type 0
+EachRefusalIsNamed = InEachWorld (λ plan w. All (ToldIsNamed plan w) w.told)
+
+-- the transaction that a site was asked for over these records stands in its log, under an id of the site
+pub record IsTaken (site : ℕ) (log records : List Record) (ask : Asking) (id : TxnId) : Type 0 where
+  pub own : id.site ≡ site
+  pub stands : Contains log (Prepare (asked records id ask))
+
+-- the same, and it is that of an event of the history
+pub record IsCommitted (site : ℕ) (history : List CommitEvent) (log records : List Record) (ask : Asking) (id : TxnId) : Type 0 where
+  pub taken : IsTaken site log records ask id
+  pub event : CommitEvent
+  pub stands : Contains history event
+  pub asked_for : event.prepare ≡ asked records id ask
+
+abbrev pub Stays : ℕ → List CommitEvent → List Record → List Record → Asking → Reply → Type 0
+Stays site history log records ask (Prepared id) = IsTaken site log records ask id
+Stays site history log records ask (Committed id) = IsCommitted site history log records ask id
+Stays site history log records ask (Overwritten key version) = Unit {0}
+Stays site history log records ask (Conflict id) = Unit {0}
+Stays site history log records ask ClockSpent = Unit {0}
+Stays site history log records ask PoolFull = Unit {0}
+
+abbrev pub StaysTo : ℕ → List CommitEvent → List Record → List Record → Input → Reply → Type 0
+StaysTo site history log records (Request ask) reply = Stays site history log records ask reply
+
+-- a released reply that a transaction was taken or committed is true of what the site was asked for, over the records that
+-- its log had just before the input
+abbrev pub ToldStays : Setting → World → Told → Type 0
+ToldStays plan w t = StaysTo t.site w.history (node_of plan w t.site).log (take t.log_length (node_of plan w t.site).log) t.input t.reply
+
+abbrev pub EachToldStays : Type 0
+EachToldStays = InEachWorld (λ plan w. All (ToldStays plan w) w.told)
+
+-- one list begins with the other
+pub record GrowsTo {X : Type 0} (old new : List X) : Type 0 where
+  pub more : List X
+  pub grown : new ≡ old ++ more
+
+-- what is told, committed or logged stays where it is
+pub record WorldGrowsTo (plan : Setting) (w v : World) : Type 0 where
+  pub told : GrowsTo w.told v.told
+  pub history : GrowsTo w.history v.history
+  pub logs : (k : ℕ) → k < count_of plan → GrowsTo (node_of plan w k).log (node_of plan v k).log
+
+abbrev pub EachWorldGrows : Type 0
+EachWorldGrows = (plan : Setting) (w : World) (events : List Event) → length w.journals ≡ count_of plan → MayRun plan w events
+    → WorldGrowsTo plan w (run plan w events)

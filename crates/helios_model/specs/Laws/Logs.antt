@@ -1,0 +1,102 @@
+use Rattle.std.specs.Prelude.{◌≡◌, Bool, true, false, ℕ, ◌<◌, List, ◌∷◌, ◌++◌, All, AllPairs, Contains}
+use Rattle.std.specs.List.{list_any}
+use Rattle.helios_model.specs.declared.ids.TxnId.{TxnId}
+use Rattle.helios_model.specs.declared.record.Record.{Record}
+use Rattle.helios_model.specs.declared.record.Record.TheVariants.{Prepare, Commit, Abort}
+use Rattle.helios_model.specs.Ids.{same_id}
+use Rattle.helios_model.specs.Transaction.{Transaction}
+use Rattle.helios_model.specs.Conflict.{conflict}
+use Rattle.helios_model.specs.Setting.{Setting, count_of}
+use Rattle.helios_model.specs.Log.{origin, ends, finished, prepares, current}
+use Rattle.helios_model.specs.Node.{Node}
+use Rattle.helios_model.specs.Serial.{Follows}
+use Rattle.helios_model.specs.World.{World, node_of}
+use Rattle.helios_model.specs.Laws.Reached.{InEachWorld, AtEachNode}
+use Rattle.helios_model.specs.Laws.Shapes.{EachBehind}
+use Rattle.helios_model.specs.Laws.Order.{IsPending, IsClearBehind}
+use Rattle.helios_model.specs.Laws.Nodes.{OwnTimesRise, IsWaited}
+
+abbrev pub EachTimeRises : Type 0
+EachTimeRises = AtEachNode OwnTimesRise
+
+-- each record of the log is the site's own: so it is as long as sites tell each other nothing
+abbrev pub LogIsOwn : Setting → Node → Type 0
+LogIsOwn plan n = All (λ r. origin r ≡ n.site) n.log
+
+abbrev pub EachLogIsOwn : Type 0
+EachLogIsOwn = AtEachNode LogIsOwn
+
+-- no two Prepares of a log have one id, and a Prepare of an id is the same in each log
+pub record IdsAreGivenOnce (plan : Setting) (w : World) : Type 0 where
+  pub in_log : (k : ℕ) → k < count_of plan → AllPairs (λ p q. same_id p.id q.id ≡ false) (prepares (node_of plan w k).log)
+  pub across : (i j : ℕ) → i < count_of plan → j < count_of plan → (p q : Transaction) → Contains (prepares (node_of plan w i).log) p
+      → Contains (prepares (node_of plan w j).log) q → p.id ≡ q.id → p ≡ q
+
+abbrev pub EachIdIsGivenOnce : Type 0
+EachIdIsGivenOnce = InEachWorld IdsAreGivenOnce
+
+-- a Commit or an Abort ends an id that has a Prepare before it and is not ended, later than the time of the id
+pub record IsEnding (before : List Record) (id : TxnId) (time : ℕ) : Type 0 where
+  pub pending : IsPending before id
+  pub later : id.time < time
+
+abbrev pub EndsPending : List Record → Record → Type 0
+EndsPending before (Prepare p) = Unit {0}
+EndsPending before (Commit id time) = IsEnding before id time
+EndsPending before (Abort id time cause) = IsEnding before id time
+
+-- each Commit and Abort ends what is pending, and no two of them end one id
+pub record EndingsFollow (plan : Setting) (n : Node) : Type 0 where
+  pub behind : EachBehind EndsPending n.log
+  pub once : AllPairs (λ a b. (id : TxnId) → ends id a ≡ true → ends id b ≡ false) n.log
+
+abbrev pub EachEndingFollows : Type 0
+EachEndingFollows = AtEachNode EndingsFollow
+
+abbrev pub aborts : TxnId → Record → Bool
+aborts id (Prepare p) = false
+aborts id (Commit other time) = false
+aborts id (Abort other time cause) = same_id other id
+
+abbrev pub aborted : List Record → TxnId → Bool
+aborted log id = list_any (aborts id) log
+
+-- q's Prepare stands in the log, p's before it, and the two conflict: then p has its Commit or Abort before q's Prepare
+abbrev pub EndsFirst : List Record → Transaction → Transaction → Type 0
+EndsFirst log p q = (before after : List Record) → log ≡ before ++ Prepare q ∷ after → Contains (prepares before) p → conflict p q ≡ true
+    → finished before p.id ≡ true
+
+-- no Prepare behind an own unfinished one conflicts with it; and of two that conflict, of which the later one is own, or
+-- the earlier one is own and never aborted, the earlier one is ended before the later one is taken
+pub record ConflictsAreOrdered (plan : Setting) (n : Node) : Type 0 where
+  pub clear : (p : Transaction) → p.id.site ≡ n.site → finished n.log p.id ≡ false → IsClearBehind n.log p
+  pub own_later : (p q : Transaction) → q.id.site ≡ n.site → EndsFirst n.log p q
+  pub own_earlier : (p q : Transaction) → p.id.site ≡ n.site → aborted n.log p.id ≡ false → EndsFirst n.log p q
+
+abbrev pub EachConflictIsOrdered : Type 0
+EachConflictIsOrdered = AtEachNode ConflictsAreOrdered
+
+-- as long as sites tell each other nothing, the earlier of two that conflict is ended before the later one is taken
+abbrev pub EarlierEndsFirst : Setting → Node → Type 0
+EarlierEndsFirst plan n = (p q : Transaction) → EndsFirst n.log p q
+
+abbrev pub EachEarlierEndsFirst : Type 0
+EachEarlierEndsFirst = AtEachNode EarlierEndsFirst
+
+abbrev pub FollowsBefore : ℕ → List Record → Record → Type 0
+FollowsBefore site before (Prepare p) = p.id.site ≡ site → Follows (current before) p
+FollowsBefore site before (Commit id time) = Unit {0}
+FollowsBefore site before (Abort id time cause) = Unit {0}
+
+-- where an own transaction is taken, each version that it read or overwrites is the current one
+abbrev pub VersionsWereCurrent : Setting → Node → Type 0
+VersionsWereCurrent plan n = EachBehind (FollowsBefore n.site) n.log
+
+abbrev pub EachVersionWasCurrent : Type 0
+EachVersionWasCurrent = AtEachNode VersionsWereCurrent
+
+abbrev pub CommitsWaited : Setting → Node → Type 0
+CommitsWaited plan n = All (IsWaited plan n) n.log
+
+abbrev pub EachCommitWaited : Type 0
+EachCommitWaited = AtEachNode CommitsWaited
