@@ -21,4 +21,4 @@ pub judged : (said : Result (Setting × Certificate) PlanRefusal) (plan : Settin
     → Says plan certificate.pair verdict → ((total : ℕ) → verdict ≡ verdicts.Optimal total → IsOptimal plan) → IsCheckAnswer said (Judged verdict)
 judged said plan certificate verdict read says proved =
     subst (λ (r : Result (Setting × Certificate) PlanRefusal). IsCheckAnswer r (Judged verdict)) (sym read)
-      (verdict, (record { says = says; proved = is_proved plan verdict proved }, refl))
+    (verdict, (record { says = says; proved = is_proved plan verdict proved }, refl))

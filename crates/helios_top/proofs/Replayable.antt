@@ -115,7 +115,7 @@ reads_limits items reads e =
     subst AreReads within.1 (record {
       few = leb-true (length found.0) most_items parts.0;
       differ = parts.1;
-      given = each_of_all read_at (λ r. IsGiven r.version) read_given items found.0 found.1.0
+      given = each_of_all read_at (λ r. IsGiven r.version) read_given items found.0 found.1.0;
     })
 
 pub record ArePuts (puts : List PutItem) : Type 0 where
@@ -136,7 +136,7 @@ asked_limits d p e =
     let said_reads = option_and_then reads_of (option_and_then as_array (get (codes "reads") d)) in
     let said_puts = option_and_then puts_of (option_and_then as_array (get (codes "writes") d)) in
     let time = bind_some (option_and_then whole_number (get (codes "at") d))
-      (λ (t : ℕ). option_and_then (λ (rs : List PlannedRead). option_and_then (λ (ps : List PutItem). Some (Request t rs ps)) said_puts) said_reads) p e in
+    (λ (t : ℕ). option_and_then (λ (rs : List PlannedRead). option_and_then (λ (ps : List PutItem). Some (Request t rs ps)) said_puts) said_reads) p e in
     let reads = bind_some said_reads (λ (rs : List PlannedRead). option_and_then (λ (ps : List PutItem). Some (Request time.0 rs ps)) said_puts) p time.1.1 in
     let puts = bind_some said_puts (λ (ps : List PutItem). Some (Request time.0 reads.0 ps)) p reads.1.1 in
     let in_reads = bind_some (option_and_then as_array (get (codes "reads") d)) reads_of reads.0 reads.1.0 in
@@ -149,7 +149,7 @@ asked_limits d p e =
       few_puts = of_puts.few;
       reads_differ = of_reads.differ;
       puts_differ = of_puts.differ;
-      given = of_reads.given
+      given = of_reads.given;
     })
 
 request_limits : (d : Data) (p : Planned) → request_at d ≡ Some p → IsPlannedInput p
@@ -167,7 +167,7 @@ unfolding batch_at
 batch_limits d s e =
     let said_request = option_and_then request_at (only (get (codes "inputs") d)) in
     let site = bind_some (option_and_then site_of (option_and_then whole_number (get (codes "site") d)))
-      (λ (n : ℕ). option_and_then (λ (p : Planned). Some (Batch n (p ∷ []))) said_request) s e in
+    (λ (n : ℕ). option_and_then (λ (p : Planned). Some (Batch n (p ∷ []))) said_request) s e in
     let request = bind_some said_request (λ (p : Planned). Some (Batch site.0 (p ∷ []))) s site.1.1 in
     let number = bind_some (option_and_then whole_number (get (codes "site") d)) site_of site.0 site.1.0 in
     let asked = bind_some (only (get (codes "inputs") d)) request_at request.0 request.1.0 in
@@ -176,7 +176,7 @@ batch_limits d s e =
     subst (IsPlannedStep one_site) same (record {
       here = omega arith;
       one = refl;
-      each = All-cons IsPlannedInput request.0 [] (request_limits asked.0 request.0 asked.1.1) (All-nil IsPlannedInput)
+      each = All-cons IsPlannedInput request.0 [] (request_limits asked.0 request.0 asked.1.1) (All-nil IsPlannedInput);
     })
 
 step_limits : (d : Data) (s : Step) → step_at d ≡ Some s → IsPlannedStep one_site s
@@ -194,7 +194,7 @@ steps_limits items steps e =
     let within = guard_some (nat_le (length found.0) most_steps) found.0 steps found.1.1 in
     subst AreSteps within.1 (record {
       few = leb-true (length found.0) most_steps within.0;
-      each = each_of_all step_at (IsPlannedStep one_site) step_limits items found.0 found.1.0
+      each = each_of_all step_at (IsPlannedStep one_site) step_limits items found.0 found.1.0;
     })
 
 plan_is_one_site : (d : Data) (plan : Setting) → plan_at d ≡ Some plan → one_site ≡ plan
@@ -206,7 +206,7 @@ unfolding schedule_at
 schedule_limits d s e =
     let said_steps = option_and_then steps_of (option_and_then as_array (get (codes "steps") d)) in
     let plan = bind_some (option_and_then plan_at (get (codes "plan") d))
-      (λ (p : Setting). option_and_then (λ (ss : List Step). Some (record { plan = p; steps = ss })) said_steps) s e in
+    (λ (p : Setting). option_and_then (λ (ss : List Step). Some (record { plan = p; steps = ss })) said_steps) s e in
     let steps = bind_some said_steps (λ (ss : List Step). Some (record { plan = plan.0; steps = ss })) s plan.1.1 in
     let in_plan = bind_some (get (codes "plan") d) plan_at plan.0 plan.1.0 in
     let in_steps = bind_some (option_and_then as_array (get (codes "steps") d)) steps_of steps.0 steps.1.0 in

@@ -5,6 +5,7 @@ use Rattle.commit_offsets.specs.declared.refusal.PlanRefusal.{PlanRefusal}
 use Rattle.commit_offsets.specs.Reading.{plan_of_text}
 use Rattle.helios_model.specs.Certificate.{IsCertificate}
 use Rattle.helios_model.specs.declared.plan.Certificate.{Certificate}
+use Rattle.helios_model.specs.Laws.Safe.{IsSafe}
 use Rattle.helios_model.specs.Optimal.{IsOptimal}
 use Rattle.helios_model.specs.Setting.{Setting, IsAccepted as IsAcceptedPlan}
 use Rattle.outside_io.specs.Causes.{Rose}
@@ -21,7 +22,7 @@ use Rattle.helios_top.specs.declared.ending.Answer.{Answer}
 use Rattle.helios_top.specs.declared.ending.Answer.TheVariants.{Judged, Printed, Refused}
 use Rattle.helios_top.specs.declared.ending.Ending.{Ending}
 use Rattle.helios_top.specs.declared.ending.Ending.TheVariants.{Usage, ReadFault, NoMemory, TooLarge, Answered}
-use Rattle.helios_top.specs.Answer.{IsAnswer, IsCheckAnswer, IsVerdict, replay_answer, report_for}
+use Rattle.helios_top.specs.Answer.{IsAnswer, IsCheckAnswer, IsReplayAnswer, IsVerdict, report_for, world_of}
 use Rattle.helios_top.specs.Ending.{answer_status, answer_text, line, refusal_text, status_of, text_of, verdict_status, verdict_text}
 use Rattle.helios_top.specs.Reading.{schedule_of}
 use Rattle.helios_top.specs.Run.{Answers, Ends, IsAccepted, IsDone, IsFault, IsOfForm, IsOtherForm, IsRefused, IsStatus, IsTooLarge, MayEnd, ReadWhole, Wrote, WroteOneLine, WroteOptimal, WroteRefusal, WroteVerdict}
@@ -46,13 +47,15 @@ refused_is_5 answer refusal is = ap answer_status is
 -- the status of an answer is none of these
 answer_is_not : (answer : Answer) (n : ℕ) → n ≢ 0 → n ≢ 5 → n ≢ 9 → answer_status answer ≢ n
 answer_is_not answer n zero five nine e = elim (answer_is_done answer) [
-    inl done ↦ (elim done [ inl is ↦ zero (sym e ∙ is) | inr is ↦ nine (sym e ∙ is) ])
-  | inr refused ↦ five (sym e ∙ refused_is_5 answer refused.0 refused.1) ]
+  | inl done ↦ (elim done [ inl is ↦ zero (sym e ∙ is) | inr is ↦ nine (sym e ∙ is) ])
+  | inr refused ↦ five (sym e ∙ refused_is_5 answer refused.0 refused.1)
+]
 
 answer_small : (answer : Answer) → IsStatus (answer_status answer)
 answer_small answer = elim (answer_is_done answer) [
-    inl done ↦ (elim done [ inl is ↦ inl (omega arith) | inr is ↦ inr is ])
-  | inr refused ↦ let e = refused_is_5 answer refused.0 refused.1 in inl (omega arith) ]
+  | inl done ↦ (elim done [ inl is ↦ inl (omega arith) | inr is ↦ inr is ])
+  | inr refused ↦ let e = refused_is_5 answer refused.0 refused.1 in inl (omega arith)
+]
 
 -- the status that is due is none of a write fault
 status_of_is_due : (ending : Ending) → IsStatus (status_of ending) × (status_of ending ≢ 3)
@@ -85,8 +88,9 @@ is_no_memory (Answered answer) e = absurd (answer_is_not answer 4 (λ e. omega a
 
 refused_answer : (answer : Answer) → answer_status answer ≡ 5 → (refusal : Refusal) × (answer ≡ Refused refusal)
 refused_answer answer e = elim (answer_is_done answer) [
-    inl done ↦ (elim done [ inl is ↦ absurd (omega arith) | inr is ↦ absurd (omega arith) ])
-  | inr refused ↦ refused ]
+  | inl done ↦ (elim done [ inl is ↦ absurd (omega arith) | inr is ↦ absurd (omega arith) ])
+  | inr refused ↦ refused
+]
 
 is_refused : (ending : Ending) → status_of ending ≡ 5 → (ending ≡ TooLarge) ⊎ ((refusal : Refusal) × (ending ≡ Answered (Refused refusal)))
 is_refused Usage e = absurd (omega arith)
@@ -134,23 +138,29 @@ answered_text answer = refl
 no_schedule : (said : Option Schedule) → IsSome said → said ≡ None → ⊥
 no_schedule said some none = let h : IsSome {T = Schedule} None = subst IsSome none some in cc
 
-replay_refuses : (said : Option Schedule) (refusal : Refusal) → Refused refusal ≡ replay_answer said → said ≡ None
+replay_refuses : (said : Option Schedule) (refusal : Refusal) → IsReplayAnswer said (Refused refusal) → said ≡ None
 replay_refuses None refusal e = refl
-replay_refuses (Some schedule) refusal e = cc
+replay_refuses (Some schedule) refusal h = let e = h.printed in cc
 
-replay_accepts : (said : Option Schedule) (answer : Answer) → answer ≡ replay_answer said → IsDone (answer_status answer) → IsSome said
+replay_accepts : (said : Option Schedule) (answer : Answer) → IsReplayAnswer said answer → IsDone (answer_status answer) → IsSome said
 replay_accepts None answer e done = let is : answer_status answer ≡ 5 = ap answer_status e in elim done [ inl zero ↦ absurd (omega arith) | inr nine ↦ absurd (omega arith) ]
-replay_accepts (Some schedule) answer e done = refl
+replay_accepts (Some schedule) answer h done = refl
 
 -- `replay` wrote the report of the schedule
-replay_wrote : (taken taken' : Option (List ℕ)) (said : Option Schedule) (answer : Answer) → answer ≡ replay_answer said → IsDone (answer_status answer)
+replay_wrote : (taken taken' : Option (List ℕ)) (said : Option Schedule) (answer : Answer) → IsReplayAnswer said answer → IsDone (answer_status answer)
     → Appends taken taken' (answer_text answer) → IsSomeAnd said (λ schedule. Appends taken taken' (report_for schedule))
 replay_wrote taken taken' None answer e done wrote = absurd (no_schedule None (replay_accepts None answer e done) refl)
-replay_wrote taken taken' (Some schedule) answer e done wrote = subst (λ (a : Answer). Appends taken taken' (answer_text a)) e wrote
+replay_wrote taken taken' (Some schedule) answer h done wrote = subst (λ (a : Answer). Appends taken taken' (answer_text a)) h.printed wrote
 
-replay_prints : (said : Option Schedule) (answer : Answer) → answer ≡ replay_answer said → answer_status answer ≢ 9
+-- the world of the report is safe
+replay_safe : (said : Option Schedule) (answer : Answer) → IsReplayAnswer said answer → IsDone (answer_status answer)
+    → IsSomeAnd said (λ schedule. IsSafe schedule.plan (world_of schedule))
+replay_safe None answer e done = absurd (no_schedule None (replay_accepts None answer e done) refl)
+replay_safe (Some schedule) answer h done = h.safe
+
+replay_prints : (said : Option Schedule) (answer : Answer) → IsReplayAnswer said answer → answer_status answer ≢ 9
 replay_prints None answer e nine = let is : answer_status answer ≡ 5 = ap answer_status e in absurd (omega arith)
-replay_prints (Some schedule) answer e nine = let is : answer_status answer ≡ 0 = ap answer_status e in absurd (omega arith)
+replay_prints (Some schedule) answer h nine = let is : answer_status answer ≡ 0 = ap answer_status h.printed in absurd (omega arith)
 
 check_refuses : (said : Result (Setting × Certificate) PlanRefusal) (refusal : Refusal) → IsCheckAnswer said (Refused refusal) → IsErr said
 check_refuses (Ok read) refusal h = let e = h.1.1 in cc
@@ -168,7 +178,7 @@ check_wrote taken taken' status (Ok read) answer h done due wrote = record {
   verdict = h.0;
   is_verdict = h.1.0;
   due = due ∙ ap answer_status h.1.1;
-  written = subst (λ (a : Answer). Appends taken taken' (answer_text a)) h.1.1 wrote
+  written = subst (λ (a : Answer). Appends taken taken' (answer_text a)) h.1.1 wrote;
 }
 check_wrote taken taken' status (Err reason) answer e done due wrote =
     let is : answer_status answer ≡ 5 = ap answer_status e in elim done [ inl zero ↦ absurd (omega arith) | inr nine ↦ absurd (omega arith) ]
@@ -185,7 +195,7 @@ verdict_optimal taken taken' plan pair (verdicts.Optimal total) zero h wrote = r
   accepted = h.says.0;
   certificate = h.says.1;
   optimal = h.proved;
-  written = subst (λ (n : ℕ). Appends taken taken' (line (codes "optimal " ++ decimal n))) h.says.2 wrote
+  written = subst (λ (n : ℕ). Appends taken taken' (line (codes "optimal " ++ decimal n))) h.says.2 wrote;
 }
 verdict_optimal taken taken' plan pair (verdicts.Short i j) zero h wrote = absurd (omega arith)
 verdict_optimal taken taken' plan pair (verdicts.NoPairing i) zero h wrote = absurd (omega arith)
@@ -293,14 +303,16 @@ wrote_refused taken taken' named left left' bytes refusal told h wrote =
 refused_answered : (named : Option Command) (left left' : Option (List ℕ)) (bytes : List ℕ) (answer : Answer) → left ≡ Some bytes → Answers named left left' answer
     → IsRefused named bytes → answer_status answer ≡ 5
 refused_answered named left left' bytes answer told h refused = elim (answer_is_done answer) [
-    inl done ↦ absurd (one_of_two named bytes (done_told named left left' bytes answer told h done) refused)
-  | inr is ↦ refused_is_5 answer is.0 is.1 ]
+  | inl done ↦ absurd (one_of_two named bytes (done_told named left left' bytes answer told h done) refused)
+  | inr is ↦ refused_is_5 answer is.0 is.1
+]
 
 accepted_answered : (named : Option Command) (left left' : Option (List ℕ)) (bytes : List ℕ) (answer : Answer) → left ≡ Some bytes → Answers named left left' answer
     → IsAccepted named bytes → IsDone (answer_status answer)
 accepted_answered named left left' bytes answer told h accepted = elim (answer_is_done answer) [
-    inl done ↦ done
-  | inr is ↦ absurd (one_of_two named bytes accepted (refused_told named left left' bytes is.0 told (subst (Answers named left left') is.1 h))) ]
+  | inl done ↦ done
+  | inr is ↦ absurd (one_of_two named bytes accepted (refused_told named left left' bytes is.0 told (subst (Answers named left left') is.1 h)))
+]
 
 -- the ends over an input that is refused
 over_refused : (named : Option Command) (left left' : Option (List ℕ)) (reads reads' status : ℕ) (bytes : List ℕ) (ending : Ending) → MayEnd named left left' reads reads' ending
@@ -356,10 +368,10 @@ module _ {named : Option Command} {left left' : Option (List ℕ)} {reads reads'
       | inr is ↦ (refusal_text is.0, subst (Appends taken taken') (ap text_of is.1 ∙ answered_text (Refused is.0)) d.1)
     ];
     judged = λ e. let d = due h (λ three. omega arith) in
-      let at : status_of h.ending ≡ 9 = sym d.0 ∙ e in
-      let found = is_answered h.ending (inr at) in
-      let verdict = judged_answer found.0 (sym (ap status_of found.1) ∙ at) in
-      (verdict.0, subst (Appends taken taken') (ap text_of found.1 ∙ answered_text found.0 ∙ ap answer_text verdict.1) d.1);
+        let at : status_of h.ending ≡ 9 = sym d.0 ∙ e in
+        let found = is_answered h.ending (inr at) in
+        let verdict = judged_answer found.0 (sym (ap status_of found.1) ∙ at) in
+        (verdict.0, subst (Appends taken taken') (ap text_of found.1 ∙ answered_text found.0 ∙ ap answer_text verdict.1) d.1);
   }
 
   -- the status is the one that is due, or 3
@@ -386,10 +398,16 @@ module _ {named : Option Command} {left left' : Option (List ℕ)} {reads reads'
       → (IsSome named × IsOverLimit INPUT_LIMIT left × Appends taken taken' (line (codes "refused too-large")))
       ⊎ ((refusal : Refusal) × (Answers named left left' (Refused refusal) × Appends taken taken' (answer_text (Refused refusal))))
   refusal_may h e = let d = due h (λ three. omega arith) in elim (is_refused h.ending (sym d.0 ∙ e)) [
-      inl is ↦ let may : IsSome named × IsOverLimit INPUT_LIMIT left = subst (MayEnd named left left' reads reads') is h.may_end in
+    | inl is ↦ let may : IsSome named × IsOverLimit INPUT_LIMIT left = subst (MayEnd named left left' reads reads') is h.may_end in
         inl (may.0, may.1, subst (Appends taken taken') (ap text_of is ∙ too_large_text) d.1)
-    | inr is ↦ inr (is.0, (subst (MayEnd named left left' reads reads') is.1 h.may_end,
-        subst (Appends taken taken') (ap text_of is.1 ∙ answered_text (Refused is.0)) d.1)) ]
+    | inr is ↦ inr (
+      is.0,
+      (
+        subst (MayEnd named left left' reads reads') is.1 h.may_end,
+        subst (Appends taken taken') (ap text_of is.1 ∙ answered_text (Refused is.0)) d.1,
+      ),
+    )
+  ]
 
   pub refused_cause : Ends named left left' reads reads' taken taken' writes writes' status → status ≡ 5 → IfSome left (λ bytes. IsRefused named bytes)
   refused_cause h e = if_told left _ (λ bytes told. elim (refusal_may h e) [
@@ -422,14 +440,27 @@ module _ {named : Option Command} {left left' : Option (List ℕ)} {reads reads'
       let a : Answers named left left' p.0 = p.1.0 in
       a.is_named ∙ ap Some (only_check a.command a.bytes p.0 a.is_answer (sym p.1.1 ∙ nine))
 
-  pub replayed : Ends named left left' reads reads' taken taken' writes writes' status → named ≡ Some Replay → status ≡ 0
-      → ReadWhole left left' (λ text. IsSomeAnd (schedule_of text) (λ schedule. Appends taken taken' (report_for schedule)))
-  replayed h replay zero =
+  -- what `replay` answered to the text that it read
+  replay_answered : (h : Ends named left left' reads reads' taken taken' writes writes' status) → named ≡ Some Replay → status ≡ 0
+      → ReadWhole left left' (λ text. (answer : Answer) × (IsReplayAnswer (schedule_of text) answer × IsDone (answer_status answer) × Appends taken taken' (answer_text answer)))
+  replay_answered h replay zero =
       let p = answered_may h (inl zero) in
       let a : Answers named left left' p.0 = p.1.0 in
       let is : a.command ≡ Replay = cc (a.is_named, replay) in
       let answer = subst (λ (command : Command). IsAnswer command a.bytes p.0) is a.is_answer in
-      record { bytes = a.bytes; is_whole = a.is_whole; fits = a.fits; holds = replay_wrote taken taken' (schedule_of a.bytes) p.0 answer (inl (sym p.1.1 ∙ zero)) p.1.2 }
+      record { bytes = a.bytes; is_whole = a.is_whole; fits = a.fits; holds = (p.0, (answer, inl (sym p.1.1 ∙ zero), p.1.2)) }
+
+  pub replayed : Ends named left left' reads reads' taken taken' writes writes' status → named ≡ Some Replay → status ≡ 0
+      → ReadWhole left left' (λ text. IsSomeAnd (schedule_of text) (λ schedule. Appends taken taken' (report_for schedule)))
+  replayed h replay zero =
+      let r = replay_answered h replay zero in
+      record { bytes = r.bytes; is_whole = r.is_whole; fits = r.fits; holds = replay_wrote taken taken' (schedule_of r.bytes) r.holds.0 r.holds.1.0 r.holds.1.1 r.holds.1.2 }
+
+  pub safe : Ends named left left' reads reads' taken taken' writes writes' status → named ≡ Some Replay → status ≡ 0
+      → ReadWhole left left' (λ text. IsSomeAnd (schedule_of text) (λ schedule. IsSafe schedule.plan (world_of schedule)))
+  safe h replay zero =
+      let r = replay_answered h replay zero in
+      record { bytes = r.bytes; is_whole = r.is_whole; fits = r.fits; holds = replay_safe (schedule_of r.bytes) r.holds.0 r.holds.1.0 r.holds.1.1 }
 
   pub checked : Ends named left left' reads reads' taken taken' writes writes' status → named ≡ Some Check → IsDone status
       → ReadWhole left left' (λ text. IsOkAnd (plan_of_text text) (λ read. WroteVerdict taken taken' status read.0 read.1.pair))

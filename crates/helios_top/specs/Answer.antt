@@ -9,7 +9,9 @@ use Rattle.plan_certificate.specs.declared.verdict.Verdict.{Verdict}
 use Rattle.plan_certificate.specs.declared.verdict.Verdict.TheVariants as verdicts
 use Rattle.plan_certificate.specs.Says.{Says}
 use Rattle.schedule_replay.specs.declared.schedule.Schedule.{Schedule}
-use Rattle.schedule_replay.specs.Report.{report_of}
+use Rattle.helios_model.specs.Laws.Safe.{IsSafe}
+use Rattle.helios_model.specs.World.{World}
+use Rattle.schedule_replay.specs.Report.{reached, report_of}
 use Rattle.helios_top.specs.declared.words.Command.{Command}
 use Rattle.helios_top.specs.declared.words.Command.TheVariants.{Check, Replay}
 use Rattle.helios_top.specs.declared.ending.Refusal.TheVariants.{OfPlan, Unbuilt}
@@ -21,10 +23,19 @@ use Rattle.helios_top.specs.Reading.{schedule_of}
 unfoldable pub report_for : Schedule → List ℕ
 report_for schedule = report_of schedule.plan schedule.steps
 
--- what `replay` answers to the schedule that a text says, if it says one
-abbrev pub replay_answer : Option Schedule → Answer
-replay_answer None = Refused Unbuilt
-replay_answer (Some schedule) = Printed (report_for schedule)
+-- the world that a schedule reaches
+abbrev pub world_of : Schedule → World
+world_of schedule = reached schedule.plan schedule.steps
+
+-- the report of the schedule is printed, and the world that it reports is safe
+pub record IsReported (schedule : Schedule) (answer : Answer) : Type 0 where
+  pub printed : answer ≡ Printed (report_for schedule)
+  pub safe : IsSafe schedule.plan (world_of schedule)
+
+-- `replay` answers with the report of the schedule that the text says, if it says one
+abbrev pub IsReplayAnswer : Option Schedule → Answer → Type 0
+IsReplayAnswer None answer = answer ≡ Refused Unbuilt
+IsReplayAnswer (Some schedule) answer = IsReported schedule answer
 
 -- a plan that is called optimal is optimal
 abbrev pub IsProved : Setting → Verdict → Type 0
@@ -45,5 +56,5 @@ IsCheckAnswer (Ok read) answer = (verdict : Verdict) × (IsVerdict read.0 read.1
 
 -- what a command answers to an input that it reads whole
 abbrev pub IsAnswer : Command → List ℕ → Answer → Type 0
-IsAnswer Replay text answer = answer ≡ replay_answer (schedule_of text)
+IsAnswer Replay text answer = IsReplayAnswer (schedule_of text) answer
 IsAnswer Check text answer = IsCheckAnswer (plan_of_text text) answer

@@ -1,10 +1,11 @@
 ghost use Rattle.std.specs.Prelude.{◌≡◌, ◌⊎◌, None, Some, IfOk, IfSome, IsOkAnd, IsSomeAnd, MatchResult};
 ghost use Rattle.std.specs.Io.KnownBytes.{Appends, IsAtEnd};
 ghost use Rattle.commit_offsets.specs.Reading.{plan_of_text};
+ghost use Rattle.helios_model.specs.Laws.Safe.{IsSafe};
 ghost use Rattle.outside_io.specs.Causes.{Rose};
 ghost use Rattle.outside_io.specs.Whole.{AppendsPrefix, IsOverLimit};
 ghost use Rattle.helios_top.specs.declared.ending.Ending.{Ending};
-ghost use Rattle.helios_top.specs.Answer.{IsAnswer, report_for};
+ghost use Rattle.helios_top.specs.Answer.{IsAnswer, report_for, world_of};
 ghost use Rattle.helios_top.specs.Ending.{text_of};
 ghost use Rattle.helios_top.specs.Reading.{schedule_of};
 ghost use Rattle.helios_top.specs.Run.{Ends, IsAccepted, IsDone, IsFault, IsRefused, IsStatus, MayEnd, ReadWhole, Wrote, WroteOneLine, WroteOptimal, WroteRefusal, WroteText, WroteVerdict};
@@ -63,16 +64,22 @@ pub fn run<S: Source, K: Sink>(
     // `replay`: the text that was read is a schedule, and exactly its report was written.
     ensures replayed { command_of (texts words.now.items) ≡ Some Command.Replay → result.0 ≡ 0
         → ReadWhole (S.left input.old) (S.left input.new) (λ text. IsSomeAnd (schedule_of text)
-            (λ schedule. Appends (K.taken output.old) (K.taken output.new) (report_for schedule))) }
+        (λ schedule. Appends (K.taken output.old) (K.taken output.new) (report_for schedule))) }
+
+    // And the world that it reports is safe: its commits are a serial history, and each refusal
+    // names what stood in its way.
+    ensures safe { command_of (texts words.now.items) ≡ Some Command.Replay → result.0 ≡ 0
+        → ReadWhole (S.left input.old) (S.left input.new) (λ text. IsSomeAnd (schedule_of text)
+        (λ schedule. IsSafe schedule.plan (world_of schedule))) }
 
     // `check`: the text that was read is a plan, and exactly the verdict on it was written.
     ensures judged { result.0 ≡ 9 → command_of (texts words.now.items) ≡ Some Command.Check }
     ensures checked { command_of (texts words.now.items) ≡ Some Command.Check → IsDone result.0
         → ReadWhole (S.left input.old) (S.left input.new) (λ text. IsOkAnd (plan_of_text text)
-            (λ read. WroteVerdict (K.taken output.old) (K.taken output.new) result.0 read.0 read.1.pair)) }
+        (λ read. WroteVerdict (K.taken output.old) (K.taken output.new) result.0 read.0 read.1.pair)) }
     ensures optimal { command_of (texts words.now.items) ≡ Some Command.Check → result.0 ≡ 0
         → ReadWhole (S.left input.old) (S.left input.new) (λ text. IsOkAnd (plan_of_text text)
-            (λ read. WroteOptimal (K.taken output.old) (K.taken output.new) read.0 read.1.pair)) }
+        (λ read. WroteOptimal (K.taken output.old) (K.taken output.new) read.0 read.1.pair)) }
 {
     run_whole(alloc, words, input, output)
 }
