@@ -2,3 +2,4 @@ pub mod Slices
 pub mod Offsets
 pub mod LawProofs
 pub mod PlanLimits
+pub mod FirstBelow

@@ -1,4 +1,4 @@
-use Rattle.std.specs.Prelude.{◌≢◌, ◌↔◌, ℕ, ℤ, pos, ◌+ℤ◌, ◌-ℤ◌, ◌≤ℤ◌, ◌+◌, ◌≤◌, Bool, nat_eq, nat_le, if◌then◌else◌}
+use Rattle.std.specs.Prelude.{◌≢◌, ◌↔◌, ℕ, ℤ, pos, ◌+ℤ◌, ◌-ℤ◌, ◌≤ℤ◌, ◌+◌, ◌≤◌, Bool, IsTrue, nat_eq, nat_le, if◌then◌else◌}
 use Rattle.helios_model.specs.Setting.{Setting, rtt, latency}
 
 -- the planned offset from site i to site j, in half microseconds
@@ -15,7 +15,7 @@ IsWithin plan i j q time = time + rtt plan i j ≤ q + latency plan i
 
 -- the two tests say what the signed offset says
 pub record OffsetIsTested (plan : Setting) (i j q time : ℕ) : Type 0 where
-  pub past : (pos q +ℤ offset plan i j) ≤ℤ pos time ↔ (q + latency plan i ≤ time + rtt plan i j)
+  pub past : (pos q +ℤ offset plan i j) ≤ℤ pos time ↔ IsTrue (is_past plan i j q time)
   pub within : pos time ≤ℤ (pos q +ℤ offset plan i j) ↔ IsWithin plan i j q time
 
 abbrev pub OffsetsAreTested : Type 0

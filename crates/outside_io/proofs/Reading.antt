@@ -1,6 +1,8 @@
 -- What a loop of reads has taken so far.
-use Rattle.std.proofs.Common.{◌≡◌, ℕ, ◌+◌, ◌<◌, ◌≤◌, List, [], ◌++◌, Option, Some, None, length, arith, ap, sym, subst, length-append}
+use Rattle.std.proofs.Common.{◌≡◌, ℕ, ◌+◌, ◌<◌, ◌≤◌, List, [], ◌++◌, Option, Some, None, length, arith, ap, sym, ◌∙◌, subst, length-append}
+use Rattle.std.specs.Prelude.{Result, Err, IsErrOf}
 use Rattle.std.specs.Io.KnownBytes.{Consumes}
+use Rattle.outside_io.specs.declared.whole.InputError.{InputError}
 use Rattle.std.proofs.KnownBytes.{Consumes-trans, Consumes-nil}
 use Rattle.outside_io.specs.Whole.{IsOverLimit, TakesAtMost, HasGrown}
 
@@ -30,3 +32,11 @@ pub taken_nil : (left : Option (List ℕ)) (bytes : List ℕ) → bytes ≡ [] �
 taken_nil left bytes none =
     let P : List ℕ → Type 0 = Consumes left left in
     subst P (sym none) (Consumes-nil left)
+
+-- an error that is handed on is the same error
+pub same_fault : {T U : Type 0} (given handed fault : InputError) → IsErrOf {T = T} {E = InputError} (Err given) fault → given ≡ handed
+    → IsErrOf {T = U} {E = InputError} (Err handed) fault
+same_fault {T} {U} given handed fault was same =
+    let same_value : given ≡ fault = cc in
+    let fails : InputError → Result U InputError = λ x. Err x in
+    ap fails (sym same ∙ same_value)

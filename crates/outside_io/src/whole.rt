@@ -49,7 +49,8 @@ impl From<AllocError> for InputError {
 const PIECE: usize = 8192;
 
 /// All that the source still has, where that is at most `limit` bytes; `None` where it is more.
-/// No more than `limit + 1` bytes are taken from the source.
+/// No more than `limit + 1` bytes are taken from the source, and once so many were, nothing more is
+/// asked of it.
 pub fn read_whole<S: Source>(
     alloc: Global,
     source: &mut S,
@@ -64,6 +65,8 @@ pub fn read_whole<S: Source>(
     ensures later { S.faults source.old ≤ S.faults source.new }
     ensures count { IsCount (S.faults source.old) → IsCount (S.faults source.new) }
     ensures most { TakesAtMost (limit + 1) (S.left source.old) (S.left source.new) }
+    ensures unasked { IsErrOf result InputError.Failed →
+        TakesAtMost limit (S.left source.old) (S.left source.new) }
     ensures tells { StaysTold (S.left source.old) (S.left source.new) }
 {
     let mut bytes = Vec::new(alloc);
@@ -94,6 +97,8 @@ fn read_piece<S: Source>(
     ensures len { IfOk result (λ n. (n ≤ most) × (vec_len bytes.new ≡ vec_len bytes.old + n)) }
     ensures end { IfOk result (λ n. n ≡ 0 → 0 < most → IsAtEnd (S.left source.new)) }
     ensures most { TakesAtMost most (S.left source.old) (S.left source.new) }
+    ensures unmoved { IsErrOf result InputError.Failed →
+        TakesAtMost 0 (S.left source.old) (S.left source.new) }
     ensures failed { IsErrOf result InputError.Failed →
         Rose (S.faults source.old) (S.faults source.new) }
     ensures later { S.faults source.old ≤ S.faults source.new }

@@ -1,3 +1,4 @@
+pub mod Judgements
 pub mod Optimality
 pub mod Permutations
 pub mod Sums

@@ -9,13 +9,10 @@ use Rattle.std.proofs.lemmas.Bool.{eqb-true, eqb-false}
 use Rattle.std.proofs.Math.Nat.{mul-zero}
 use lib.Dec.{eqb}
 use mathlib.Core.Bool.{true, false}
-use Rattle.std.specs.List.{All}
-use Rattle.std.proofs.lemmas.List.Elements.{All-get_or, All-from_get_or}
-use Rattle.std.proofs.lemmas.List.FromFn.{get_or-range_with_len}
-use Rattle.std.proofs.lemmas.List.Sorted.{All-permutation}
 use Rattle.helios_model.specs.Setting.{Setting, IsAccepted, count_of, rtt}
 use Rattle.helios_model.specs.Certificate.{IsCertificate}
 use Rattle.helios_model.specs.Optimal.{IsOptimal}
+use Rattle.plan_certificate.proofs.Permutations.{below_from_permutation}
 use Rattle.plan_certificate.proofs.Sums.{sum_below, sum_below-le, sum_below-items}
 
 -- a sum over images is the sum of the composed function
@@ -57,20 +54,11 @@ pairing_bound trip n k pairs p long order zero_self low reach =
     let partners : sum_below (λ i. get_or p (get_or pairs i 0) 0) n ≡ sum p = partners_sum n pairs p long order in
     omega arith
 
--- the numbers below n are below n
-range_below : (n : ℕ) → All (λ j. j < n) (range_with_len 0 n)
-range_below n = All-from_get_or (λ j. j < n) (range_with_len 0 n) 0 (λ i within.
-    let long : length (range_with_len 0 n) ≡ n = length-range_with_len 0 n in
-    let at : get_or (range_with_len 0 n) i 0 ≡ 0 + i = get_or-range_with_len 0 n i 0 (omega arith) in
-    omega arith)
-
 -- an accepted plan with a certificate is optimal
 pub certificate_shows_optimal : (plan : Setting) (pair : List ℕ) → IsAccepted plan → IsCertificate plan pair → IsOptimal plan
 certificate_shows_optimal plan pair accepted certificate k others some long reach =
     let n : ℕ = count_of plan in
-    let pairs_long : length pair ≡ n = length_permutation (range_with_len 0 n) pair certificate.pairing ∙ length-range_with_len 0 n in
-    let low : (i : ℕ) → i < n → get_or pair i 0 < n = λ i within.
-    All-get_or (λ j. j < n) pair i 0 (omega arith) (All-permutation (λ j. j < n) (range_with_len 0 n) pair certificate.pairing (range_below n)) in
+    let low : (i : ℕ) → i < n → get_or pair i 0 < n = below_from_permutation n pair certificate.pairing in
     let bound : k * sum_below (λ i. rtt plan i (get_or pair i 0)) n ≤ sum others =
     pairing_bound (rtt plan) n k pair others long certificate.pairing accepted.limits.matrix.diagonal low reach in
     let value : k * sum plan.latencies ≡ k * sum_below (λ i. rtt plan i (get_or pair i 0)) n = ap (λ m. k * m) certificate.value in

@@ -1,15 +1,16 @@
 -- n numbers below n of which no two are alike are the numbers below n in some order.
 use Rattle.std.proofs.Common.{◌≡◌, ◌≢◌, ℕ, ◌+◌, ◌<◌, ◌≤◌, Bool, true, false, ◌||◌, List, [], ◌∷◌, length, get_or, refl, sym, ◌∙◌, ap, arith}
-use Rattle.std.specs.List.{IsDistinct, AllByRecursion, list_any, range_with_len, remove, Contains}
+use Rattle.std.proofs.lemmas.Cmp.{nat_eq_equiv}
+use Rattle.std.specs.List.{All, IsDistinct, AllByRecursion, list_any, range_with_len, remove, Contains}
 use Rattle.std.specs.List.Sorted.{IsPermutation}
-use Rattle.std.proofs.lemmas.Bool.{eqb-true, eq-eqb, ne_eqb}
+use Rattle.std.proofs.lemmas.Bool.{eqb-true, eqb-false, eq-eqb, ne_eqb}
 use Rattle.std.proofs.lemmas.List.{get_or_default, nil_from_length}
 use Rattle.std.proofs.lemmas.List.Edits.{length-remove}
-use Rattle.std.proofs.lemmas.List.Elements.{All-from_recursion}
+use Rattle.std.proofs.lemmas.List.Elements.{All-get_or, All-from_get_or, All-from_recursion}
 use Rattle.std.proofs.lemmas.List.Folds.{list_any_none}
 use Rattle.std.proofs.lemmas.List.FromFn.{length-range_with_len, get_or-range_with_len}
-use Rattle.std.proofs.lemmas.List.Sorted.{IsPermutation-refl, IsPermutation-cons, IsPermutation-trans, IsPermutation-sym, IsPermutation-remove, list_any-IsPermutation}
-use Rattle.std.proofs.lemmas.Map.Keys.{IsDistinct-head, IsDistinct-tail, IsDistinct-from_apart, IsDistinct-cons}
+use Rattle.std.proofs.lemmas.List.Sorted.{IsPermutation-refl, IsPermutation-cons, IsPermutation-trans, IsPermutation-sym, IsPermutation-remove, list_any-IsPermutation, length_permutation, All-permutation}
+use Rattle.std.proofs.lemmas.Map.Keys.{IsDistinct-head, IsDistinct-tail, IsDistinct-from_apart, IsDistinct-cons, IsDistinct-IsPermutation, apart_from_distinct}
 use Rattle.std.proofs.lemmas.Map.Steps.{length-le_from_distinct_below}
 use Rattle.std.proofs.lemmas.Map.Views.{Contains-from_any}
 use lib.Dec.{eqb}
@@ -105,3 +106,22 @@ permutation_from_apart n js long below apart =
     none_missing n js long low (distinct_from_apart js apart) q
     (below_from_any n (range_with_len 0 n) (λ i within. let at : get_or (range_with_len 0 n) i 0 ≡ 0 + i = get_or-range_with_len 0 n i 0 (omega arith) in omega arith) q found)
     (list_any (eqb q) js) refl)
+
+-- the numbers below n are below n
+range_below : (n : ℕ) → All (λ j. j < n) (range_with_len 0 n)
+range_below n = All-from_get_or (λ j. j < n) (range_with_len 0 n) 0 (λ i within.
+    let long : length (range_with_len 0 n) ≡ n = length-range_with_len 0 n in
+    let at : get_or (range_with_len 0 n) i 0 ≡ 0 + i = get_or-range_with_len 0 n i 0 (omega arith) in
+    omega arith)
+
+-- what the numbers below n are in another order is below n at each place
+pub below_from_permutation : (n : ℕ) (js : List ℕ) → IsPermutation (range_with_len 0 n) js → (i : ℕ) → i < n → get_or js i 0 < n
+below_from_permutation n js order i low =
+    let long : length js ≡ n = length_permutation (range_with_len 0 n) js order ∙ length-range_with_len 0 n in
+    All-get_or (λ j. j < n) js i 0 (omega arith) (All-permutation (λ j. j < n) (range_with_len 0 n) js order (range_below n))
+
+-- no two of it are alike
+pub apart_from_permutation : (n : ℕ) (js : List ℕ) → IsPermutation (range_with_len 0 n) js → AreApart js
+apart_from_permutation n js order i j before within =
+    eqb-false (get_or js i 0) (get_or js j 0)
+    (apart_from_distinct eqb js i j 0 (IsDistinct-IsPermutation eqb (λ x y. (nat_eq_equiv).symm x y) (range_with_len 0 n) js order (range_distinct n)) before within)

@@ -2,6 +2,7 @@ ghost use Rattle.std.specs.Prelude.{◌≡◌, ℕ, ◌^◌, ◌<◌, length, Al
 ghost use Rattle.helios_model.specs.Setting.{IsAccepted, count_of};
 ghost use Rattle.helios_model.specs.Certificate.{pair_value};
 ghost use Rattle.helios_model.specs.Optimal.{IsOptimal};
+ghost use Rattle.plan_certificate.specs.Judgement.{verdict_of};
 ghost use Rattle.plan_certificate.specs.Says.{Says};
 ghost use Rattle.plan_certificate.specs.Verdict.{ArePaired};
 
@@ -12,18 +13,28 @@ use helios_model::ids::SiteId;
 use helios_model::plan::{Certificate, Plan};
 
 /// The verdict on a plan and a certificate of as many sites.
+#[tactic(auto, using(crate::proofs::Judgements::verdict_is))]
 pub fn check(plan: &Plan, certificate: &Certificate) -> Verdict
     requires { length certificate.now.pair ≡ count_of plan.now }
-    ensures exact { Says plan.now certificate.now.pair result }
+    ensures says { Says plan.now certificate.now.pair result }
+    ensures exact { result ≡ verdict_of plan.now certificate.now.pair }
+    ensures optimal { (total : ℕ) → result ≡ Verdict.Optimal total → IsOptimal plan.now }
+{
+    judge(plan, certificate.pair.items())
+}
+
+fn judge(plan: &Plan, pair: &[u8]) -> Verdict
+    requires { length pair.now ≡ count_of plan.now }
+    ensures says { Says plan.now pair.now result }
     ensures optimal { (total : ℕ) → result ≡ Verdict.Optimal total → IsOptimal plan.now }
 {
     if let Some((i, j)) = first_short(plan) {
         return Verdict::Short(i, j);
     }
-    if let Some(place) = first_unpaired(plan.count(), certificate.pair.items()) {
+    if let Some(place) = first_unpaired(plan.count(), pair) {
         return Verdict::NoPairing(place as u64);
     }
-    weigh(plan, certificate.pair.items())
+    weigh(plan, pair)
 }
 
 // The verdict on an accepted plan and a pairing of its sites.
@@ -32,7 +43,7 @@ fn weigh(plan: &Plan, pair: &[u8]) -> Verdict
     requires long { length pair.now ≡ count_of plan.now }
     requires accepted { IsAccepted plan.now }
     requires paired { ArePaired (count_of plan.now) pair.now (length pair.now) }
-    ensures exact { Says plan.now pair.now result }
+    ensures says { Says plan.now pair.now result }
     ensures optimal { (total : ℕ) → result ≡ Verdict.Optimal total → IsOptimal plan.now }
 {
     let given = sum_of(plan.latencies().items());

@@ -1,12 +1,15 @@
 ghost use Rattle.std.specs.Prelude.{◌≡◌, ℕ, ◌+◌, ◌<◌, ◌≤◌, IfSome, IfNone, MatchOption};
 ghost use Rattle.helios_model.specs.Setting.{IsAccepted, count_of};
+ghost use Rattle.plan_certificate.specs.Judgement.{first_short_of};
 ghost use Rattle.plan_certificate.specs.Verdict.{IsReached, IsFirstShort, IsFirstShortInRow, IsRowReached};
 
 use helios_model::ids::SiteId;
 use helios_model::plan::Plan;
 
 /// The first two sites, row by row, whose latencies together don't reach their round trip.
+#[tactic(auto, using(crate::proofs::Judgements::first_short_found, crate::proofs::Judgements::no_short_found))]
 pub fn first_short(plan: &Plan) -> Option<(SiteId, SiteId)>
+    ensures exact { result ≡ first_short_of plan.now }
     ensures found { IfSome result (λ pair. IsFirstShort plan.now pair.0 pair.1) }
     ensures none { IfNone result (IsAccepted plan.now) }
 {

@@ -1,5 +1,6 @@
 use Rattle.std.proofs.Common.{arith, rules, ◌∙◌}
-use Rattle.outside_io.proofs.Reading.{over_limit, takes_more, taken_grown, taken_nil}
+use Rattle.std.proofs.lemmas.Result.{err_from_is_err_and}
+use Rattle.outside_io.proofs.Reading.{same_fault, over_limit, takes_more, taken_grown, taken_nil}
 use Rattle.outside_io.proofs.whole.read_whole.Goals as goal
 
 pub loop-buffer-init : goal.loop-buffer-init
@@ -39,3 +40,8 @@ loop-buffer-preserved g c = record {
   count = λ _. c.in_ok-count.ensures.count;
   room = omega arith;
 }
+
+pub returns-in_err-count-clause-unasked : goal.returns-in_err-count-clause-unasked
+returns-in_err-count-clause-unasked g c =
+    let p = err_from_is_err_and c.from_residual-in_err-count.result c.from_residual-in_err-count.ensures.1 in
+    rw p.1 (λ failed. takes_more _ _ _ _ _ _ c.loop-buffer.invariant.taken (c.in_err-count.ensures.unmoved (same_fault _ _ _ failed p.2)) (omega (arith, c.loop-buffer.bytes.ok.0)))
