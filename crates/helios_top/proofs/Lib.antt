@@ -1,4 +1,7 @@
-pub mod Texts
 pub mod Items
 pub mod Runs
 pub mod OneSite
+pub mod Spellings
+pub mod Lists
+pub mod Replayable
+pub mod Checks

@@ -1,80 +1,117 @@
 -- What the strong clause of a run, that some ending may come and was written, says of each status.
-use Rattle.std.proofs.Common.{◌≡◌, ◌≢◌, ℕ, ◌<◌, ◌≤◌, ◌⊎◌, inl, inr, Bool, true, false, List, [], ◌++◌, if◌then◌else◌, Option, Some, None, IsSome, IfSome, IsSomeAnd, length, codes, refl, sym, ◌∙◌, ap, subst, arith, append-nil}
+use Rattle.std.proofs.Common.{◌≡◌, ◌≢◌, ℕ, ◌<◌, ◌≤◌, ◌⊎◌, inl, inr, List, [], ◌++◌, Option, Some, None, Result, Ok, Err, IsSome, IsOk, IsErr, IsOkAnd, IfSome, IsSomeAnd, length, codes, decimal, sum, refl, sym, ◌∙◌, ap, subst, arith, append-nil}
 use Rattle.std.specs.Io.KnownBytes.{Appends, Consumes, IsAtEnd}
+use Rattle.commit_offsets.specs.declared.refusal.PlanRefusal.{PlanRefusal}
+use Rattle.commit_offsets.specs.Reading.{plan_of_text}
+use Rattle.helios_model.specs.Certificate.{IsCertificate}
+use Rattle.helios_model.specs.declared.plan.Certificate.{Certificate}
+use Rattle.helios_model.specs.Laws.Safe.{IsSafe}
+use Rattle.helios_model.specs.Optimal.{IsOptimal}
+use Rattle.helios_model.specs.Setting.{Setting, IsAccepted as IsAcceptedPlan}
 use Rattle.outside_io.specs.Causes.{Rose}
 use Rattle.outside_io.specs.Whole.{AppendsPrefix, IsOverLimit, IsWholeInput}
+use Rattle.plan_certificate.specs.declared.verdict.Verdict.{Verdict}
+use Rattle.plan_certificate.specs.declared.verdict.Verdict.TheVariants as verdicts
 use Rattle.schedule_replay.specs.declared.schedule.Schedule.{Schedule}
 use Rattle.helios_top.specs.declared.TheConstants.{INPUT_LIMIT}
 use Rattle.helios_top.specs.declared.words.Command.{Command}
-use Rattle.helios_top.specs.declared.words.Command.TheVariants.{Replay}
+use Rattle.helios_top.specs.declared.words.Command.TheVariants.{Check, Replay}
 use Rattle.helios_top.specs.declared.ending.Refusal.{Refusal}
-use Rattle.helios_top.specs.declared.ending.Refusal.TheVariants.{Unbuilt}
+use Rattle.helios_top.specs.declared.ending.Refusal.TheVariants.{OfPlan, Unbuilt}
 use Rattle.helios_top.specs.declared.ending.Answer.{Answer}
-use Rattle.helios_top.specs.declared.ending.Answer.TheVariants.{Printed, Refused}
+use Rattle.helios_top.specs.declared.ending.Answer.TheVariants.{Judged, Printed, Refused}
 use Rattle.helios_top.specs.declared.ending.Ending.{Ending}
 use Rattle.helios_top.specs.declared.ending.Ending.TheVariants.{Usage, ReadFault, NoMemory, TooLarge, Answered}
-use Rattle.helios_top.specs.Answer.{answer_to, replay_answer, report_for}
-use Rattle.helios_top.specs.Ending.{answer_status, answer_text, line, refusal_text, status_of, text_of}
+use Rattle.helios_top.specs.Answer.{IsAnswer, IsCheckAnswer, IsReplayAnswer, IsVerdict, report_for, world_of}
+use Rattle.helios_top.specs.Ending.{answer_status, answer_text, line, refusal_text, status_of, text_of, verdict_status, verdict_text}
 use Rattle.helios_top.specs.Reading.{schedule_of}
-use Rattle.helios_top.specs.Run.{Answers, Ends, IsAccepted, IsFault, IsOfForm, IsOtherForm, IsRefused, IsTooLarge, MayEnd, ReadWhole, Wrote, WroteOneLine}
+use Rattle.helios_top.specs.Run.{Answers, Ends, IsAccepted, IsDone, IsFault, IsOfForm, IsOtherForm, IsRefused, IsStatus, IsTooLarge, MayEnd, ReadWhole, Wrote, WroteOneLine, WroteOptimal, WroteRefusal, WroteVerdict}
 
--- an answer prints or refuses
-answered_status : (answer : Answer) → (answer_status answer ≡ 0) ⊎ (answer_status answer ≡ 5)
-answered_status (Printed text) = inl refl
-answered_status (Refused refusal) = inr refl
+-- ---- which ending has each status
 
--- each status that is due is none of a write fault
-status_of_is_due : (ending : Ending) → (status_of ending ≤ 5) × (status_of ending ≢ 3)
-status_of_is_due Usage = (omega arith, λ e. omega arith)
-status_of_is_due ReadFault = (omega arith, λ e. omega arith)
-status_of_is_due NoMemory = (omega arith, λ e. omega arith)
-status_of_is_due TooLarge = (omega arith, λ e. omega arith)
-status_of_is_due (Answered (Printed text)) = (omega arith, λ e. omega arith)
-status_of_is_due (Answered (Refused refusal)) = (omega arith, λ e. omega arith)
+verdict_is_done : (verdict : Verdict) → IsDone (verdict_status verdict)
+verdict_is_done (verdicts.Optimal total) = inl refl
+verdict_is_done (verdicts.Short i j) = inr refl
+verdict_is_done (verdicts.NoPairing i) = inr refl
+verdict_is_done (verdicts.ValueDiffers given value) = inr refl
 
--- which ending has each status
+-- an answer is done or refused
+answer_is_done : (answer : Answer) → IsDone (answer_status answer) ⊎ ((refusal : Refusal) × (answer ≡ Refused refusal))
+answer_is_done (Printed text) = inl (inl refl)
+answer_is_done (Judged verdict) = inl (verdict_is_done verdict)
+answer_is_done (Refused refusal) = inr (refusal, refl)
+
+refused_is_5 : (answer : Answer) (refusal : Refusal) → answer ≡ Refused refusal → answer_status answer ≡ 5
+refused_is_5 answer refusal is = ap answer_status is
+
+-- the status of an answer is none of these
+answer_is_not : (answer : Answer) (n : ℕ) → n ≢ 0 → n ≢ 5 → n ≢ 9 → answer_status answer ≢ n
+answer_is_not answer n zero five nine e = elim (answer_is_done answer) [
+  | inl done ↦ (elim done [ inl is ↦ zero (sym e ∙ is) | inr is ↦ nine (sym e ∙ is) ])
+  | inr refused ↦ five (sym e ∙ refused_is_5 answer refused.0 refused.1)
+]
+
+answer_small : (answer : Answer) → IsStatus (answer_status answer)
+answer_small answer = elim (answer_is_done answer) [
+  | inl done ↦ (elim done [ inl is ↦ inl (omega arith) | inr is ↦ inr is ])
+  | inr refused ↦ let e = refused_is_5 answer refused.0 refused.1 in inl (omega arith)
+]
+
+-- the status that is due is none of a write fault
+status_of_is_due : (ending : Ending) → IsStatus (status_of ending) × (status_of ending ≢ 3)
+status_of_is_due Usage = (inl (omega arith), λ e. omega arith)
+status_of_is_due ReadFault = (inl (omega arith), λ e. omega arith)
+status_of_is_due NoMemory = (inl (omega arith), λ e. omega arith)
+status_of_is_due TooLarge = (inl (omega arith), λ e. omega arith)
+status_of_is_due (Answered answer) = (answer_small answer, answer_is_not answer 3 (λ e. omega arith) (λ e. omega arith) (λ e. omega arith))
 
 is_usage : (ending : Ending) → status_of ending ≡ 1 → ending ≡ Usage
 is_usage Usage e = refl
 is_usage ReadFault e = absurd (omega arith)
 is_usage NoMemory e = absurd (omega arith)
 is_usage TooLarge e = absurd (omega arith)
-is_usage (Answered (Printed text)) e = absurd (omega arith)
-is_usage (Answered (Refused refusal)) e = absurd (omega arith)
+is_usage (Answered answer) e = absurd (answer_is_not answer 1 (λ e. omega arith) (λ e. omega arith) (λ e. omega arith) e)
 
 is_read_fault : (ending : Ending) → status_of ending ≡ 2 → ending ≡ ReadFault
 is_read_fault Usage e = absurd (omega arith)
 is_read_fault ReadFault e = refl
 is_read_fault NoMemory e = absurd (omega arith)
 is_read_fault TooLarge e = absurd (omega arith)
-is_read_fault (Answered (Printed text)) e = absurd (omega arith)
-is_read_fault (Answered (Refused refusal)) e = absurd (omega arith)
+is_read_fault (Answered answer) e = absurd (answer_is_not answer 2 (λ e. omega arith) (λ e. omega arith) (λ e. omega arith) e)
 
 is_no_memory : (ending : Ending) → status_of ending ≡ 4 → ending ≡ NoMemory
 is_no_memory Usage e = absurd (omega arith)
 is_no_memory ReadFault e = absurd (omega arith)
 is_no_memory NoMemory e = refl
 is_no_memory TooLarge e = absurd (omega arith)
-is_no_memory (Answered (Printed text)) e = absurd (omega arith)
-is_no_memory (Answered (Refused refusal)) e = absurd (omega arith)
+is_no_memory (Answered answer) e = absurd (answer_is_not answer 4 (λ e. omega arith) (λ e. omega arith) (λ e. omega arith) e)
+
+refused_answer : (answer : Answer) → answer_status answer ≡ 5 → (refusal : Refusal) × (answer ≡ Refused refusal)
+refused_answer answer e = elim (answer_is_done answer) [
+  | inl done ↦ (elim done [ inl is ↦ absurd (omega arith) | inr is ↦ absurd (omega arith) ])
+  | inr refused ↦ refused
+]
 
 is_refused : (ending : Ending) → status_of ending ≡ 5 → (ending ≡ TooLarge) ⊎ ((refusal : Refusal) × (ending ≡ Answered (Refused refusal)))
 is_refused Usage e = absurd (omega arith)
 is_refused ReadFault e = absurd (omega arith)
 is_refused NoMemory e = absurd (omega arith)
 is_refused TooLarge e = inl refl
-is_refused (Answered (Printed text)) e = absurd (omega arith)
-is_refused (Answered (Refused refusal)) e = inr (refusal, refl)
+is_refused (Answered answer) e = let refused = refused_answer answer e in inr (refused.0, ap Answered refused.1)
 
-is_printed : (ending : Ending) → status_of ending ≡ 0 → (text : List ℕ) × (ending ≡ Answered (Printed text))
-is_printed Usage e = absurd (omega arith)
-is_printed ReadFault e = absurd (omega arith)
-is_printed NoMemory e = absurd (omega arith)
-is_printed TooLarge e = absurd (omega arith)
-is_printed (Answered (Printed text)) e = (text, refl)
-is_printed (Answered (Refused refusal)) e = absurd (omega arith)
+is_answered : (ending : Ending) → IsDone (status_of ending) → (answer : Answer) × (ending ≡ Answered answer)
+is_answered Usage e = elim e [ inl zero ↦ absurd (omega arith) | inr nine ↦ absurd (omega arith) ]
+is_answered ReadFault e = elim e [ inl zero ↦ absurd (omega arith) | inr nine ↦ absurd (omega arith) ]
+is_answered NoMemory e = elim e [ inl zero ↦ absurd (omega arith) | inr nine ↦ absurd (omega arith) ]
+is_answered TooLarge e = elim e [ inl zero ↦ absurd (omega arith) | inr nine ↦ absurd (omega arith) ]
+is_answered (Answered answer) e = (answer, refl)
 
--- the text of each of these
+judged_answer : (answer : Answer) → answer_status answer ≡ 9 → (verdict : Verdict) × (answer ≡ Judged verdict)
+judged_answer (Printed text) e = absurd (omega arith)
+judged_answer (Judged verdict) e = (verdict, refl)
+judged_answer (Refused refusal) e = absurd (omega arith)
+
+-- ---- the text of each of these
 
 usage_text : text_of Usage ≡ line (codes "usage: helios COMMAND [WORDS]")
 unfolding text_of
@@ -88,49 +125,103 @@ no_memory_text : text_of NoMemory ≡ line (codes "fault memory")
 unfolding text_of
 no_memory_text = refl
 
-too_large_text : text_of TooLarge ≡ line (codes "refused " ++ codes "too-large")
+too_large_text : text_of TooLarge ≡ line (codes "refused too-large")
 unfolding text_of
 too_large_text = refl
 
-refused_text : (refusal : Refusal) → text_of (Answered (Refused refusal)) ≡ line (codes "refused " ++ refusal_text refusal)
+answered_text : (answer : Answer) → text_of (Answered answer) ≡ answer_text answer
 unfolding text_of
-refused_text refusal = refl
+answered_text answer = refl
 
-printed_text : (text : List ℕ) → text_of (Answered (Printed text)) ≡ text
-unfolding text_of
-printed_text text = refl
-
--- each command prints exactly where the input is of its form
-
-replay_prints : (said : Option Schedule) (text : List ℕ) → replay_answer said ≡ Printed text → IsSomeAnd said (λ schedule. text ≡ report_for schedule)
-replay_prints None text e = cc
-replay_prints (Some schedule) text e = cc
-
-replay_refuses : (said : Option Schedule) (refusal : Refusal) → replay_answer said ≡ Refused refusal → said ≡ None
-replay_refuses None refusal e = refl
-replay_refuses (Some schedule) refusal e = cc
-
-replay_wrote : (taken taken' : Option (List ℕ)) (said : Option Schedule) (text : List ℕ) → Appends taken taken' text → replay_answer said ≡ Printed text
-    → IsSomeAnd said (λ schedule. Appends taken taken' (report_for schedule))
-replay_wrote taken taken' None text wrote e = cc
-replay_wrote taken taken' (Some schedule) text wrote e = let same : text ≡ report_for schedule = cc in subst (Appends taken taken') same wrote
-
-some_from_and : {T : Type 0} (P : T → Type 0) (o : Option T) → IsSomeAnd o P → IsSome o
-some_from_and P None h = absurd h
-some_from_and P (Some x) h = refl
-
-printed_form : (command : Command) (bytes text : List ℕ) → answer_to command bytes ≡ Printed text → IsOfForm command bytes
-printed_form Replay bytes text e = some_from_and _ (schedule_of bytes) (replay_prints (schedule_of bytes) text e)
-
-refused_form : (command : Command) (bytes : List ℕ) (refusal : Refusal) → answer_to command bytes ≡ Refused refusal → IsOtherForm command bytes
-refused_form Replay bytes refusal e = replay_refuses (schedule_of bytes) refusal e
+-- ---- what each command answers
 
 no_schedule : (said : Option Schedule) → IsSome said → said ≡ None → ⊥
 no_schedule said some none = let h : IsSome {T = Schedule} None = subst IsSome none some in cc
 
+replay_refuses : (said : Option Schedule) (refusal : Refusal) → IsReplayAnswer said (Refused refusal) → said ≡ None
+replay_refuses None refusal e = refl
+replay_refuses (Some schedule) refusal h = let e = h.printed in cc
+
+replay_accepts : (said : Option Schedule) (answer : Answer) → IsReplayAnswer said answer → IsDone (answer_status answer) → IsSome said
+replay_accepts None answer e done = let is : answer_status answer ≡ 5 = ap answer_status e in elim done [ inl zero ↦ absurd (omega arith) | inr nine ↦ absurd (omega arith) ]
+replay_accepts (Some schedule) answer h done = refl
+
+-- `replay` wrote the report of the schedule
+replay_wrote : (taken taken' : Option (List ℕ)) (said : Option Schedule) (answer : Answer) → IsReplayAnswer said answer → IsDone (answer_status answer)
+    → Appends taken taken' (answer_text answer) → IsSomeAnd said (λ schedule. Appends taken taken' (report_for schedule))
+replay_wrote taken taken' None answer e done wrote = absurd (no_schedule None (replay_accepts None answer e done) refl)
+replay_wrote taken taken' (Some schedule) answer h done wrote = subst (λ (a : Answer). Appends taken taken' (answer_text a)) h.printed wrote
+
+-- the world of the report is safe
+replay_safe : (said : Option Schedule) (answer : Answer) → IsReplayAnswer said answer → IsDone (answer_status answer)
+    → IsSomeAnd said (λ schedule. IsSafe schedule.plan (world_of schedule))
+replay_safe None answer e done = absurd (no_schedule None (replay_accepts None answer e done) refl)
+replay_safe (Some schedule) answer h done = h.safe
+
+replay_prints : (said : Option Schedule) (answer : Answer) → IsReplayAnswer said answer → answer_status answer ≢ 9
+replay_prints None answer e nine = let is : answer_status answer ≡ 5 = ap answer_status e in absurd (omega arith)
+replay_prints (Some schedule) answer h nine = let is : answer_status answer ≡ 0 = ap answer_status h.printed in absurd (omega arith)
+
+check_refuses : (said : Result (Setting × Certificate) PlanRefusal) (refusal : Refusal) → IsCheckAnswer said (Refused refusal) → IsErr said
+check_refuses (Ok read) refusal h = let e = h.1.1 in cc
+check_refuses (Err reason) refusal e = refl
+
+check_accepts : (said : Result (Setting × Certificate) PlanRefusal) (answer : Answer) → IsCheckAnswer said answer → IsDone (answer_status answer) → IsOk said
+check_accepts (Ok read) answer h done = refl
+check_accepts (Err reason) answer e done = let is : answer_status answer ≡ 5 = ap answer_status e in elim done [ inl zero ↦ absurd (omega arith) | inr nine ↦ absurd (omega arith) ]
+
+-- `check` wrote the verdict on the plan
+check_wrote : (taken taken' : Option (List ℕ)) (status : ℕ) (said : Result (Setting × Certificate) PlanRefusal) (answer : Answer) → IsCheckAnswer said answer
+    → IsDone (answer_status answer) → status ≡ answer_status answer → Appends taken taken' (answer_text answer)
+    → IsOkAnd said (λ read. WroteVerdict taken taken' status read.0 read.1.pair)
+check_wrote taken taken' status (Ok read) answer h done due wrote = record {
+  verdict = h.0;
+  is_verdict = h.1.0;
+  due = due ∙ ap answer_status h.1.1;
+  written = subst (λ (a : Answer). Appends taken taken' (answer_text a)) h.1.1 wrote;
+}
+check_wrote taken taken' status (Err reason) answer e done due wrote =
+    let is : answer_status answer ≡ 5 = ap answer_status e in elim done [ inl zero ↦ absurd (omega arith) | inr nine ↦ absurd (omega arith) ]
+
+-- of the two commands only `check` gives a verdict
+only_check : (command : Command) (bytes : List ℕ) (answer : Answer) → IsAnswer command bytes answer → answer_status answer ≡ 9 → command ≡ Check
+only_check Replay bytes answer e nine = absurd (replay_prints (schedule_of bytes) answer e nine)
+only_check Check bytes answer h nine = refl
+
+-- the verdict of status 0 is that the plan is optimal
+verdict_optimal : (taken taken' : Option (List ℕ)) (plan : Setting) (pair : List ℕ) (verdict : Verdict) → verdict_status verdict ≡ 0 → IsVerdict plan pair verdict
+    → Appends taken taken' (line (verdict_text verdict)) → WroteOptimal taken taken' plan pair
+verdict_optimal taken taken' plan pair (verdicts.Optimal total) zero h wrote = record {
+  accepted = h.says.0;
+  certificate = h.says.1;
+  optimal = h.proved;
+  written = subst (λ (n : ℕ). Appends taken taken' (line (codes "optimal " ++ decimal n))) h.says.2 wrote;
+}
+verdict_optimal taken taken' plan pair (verdicts.Short i j) zero h wrote = absurd (omega arith)
+verdict_optimal taken taken' plan pair (verdicts.NoPairing i) zero h wrote = absurd (omega arith)
+verdict_optimal taken taken' plan pair (verdicts.ValueDiffers given value) zero h wrote = absurd (omega arith)
+
+read_optimal : (taken taken' : Option (List ℕ)) (status : ℕ) (said : Result (Setting × Certificate) PlanRefusal) → status ≡ 0
+    → IsOkAnd said (λ read. WroteVerdict taken taken' status read.0 read.1.pair) → IsOkAnd said (λ read. WroteOptimal taken taken' read.0 read.1.pair)
+read_optimal taken taken' status (Ok read) zero h = verdict_optimal taken taken' read.0 read.1.pair h.verdict (sym h.due ∙ zero) h.is_verdict h.written
+read_optimal taken taken' status (Err reason) zero h = absurd h
+
+refused_form : (command : Command) (bytes : List ℕ) (refusal : Refusal) → IsAnswer command bytes (Refused refusal) → IsOtherForm command bytes
+refused_form Replay bytes refusal e = replay_refuses (schedule_of bytes) refusal e
+refused_form Check bytes refusal h = check_refuses (plan_of_text bytes) refusal h
+
+accepted_form : (command : Command) (bytes : List ℕ) (answer : Answer) → IsAnswer command bytes answer → IsDone (answer_status answer) → IsOfForm command bytes
+accepted_form Replay bytes answer e done = replay_accepts (schedule_of bytes) answer e done
+accepted_form Check bytes answer h done = check_accepts (plan_of_text bytes) answer h done
+
 -- no input is of a command's form and of another
+one_of_both : {T E : Type 0} (r : Result T E) → IsOk r → IsErr r → ⊥
+one_of_both (Ok x) ok err = cc
+one_of_both (Err e) ok err = cc
+
 one_form : (command : Command) (bytes : List ℕ) → IsOfForm command bytes → IsOtherForm command bytes → ⊥
 one_form Replay bytes accepted refused = no_schedule (schedule_of bytes) accepted refused
+one_form Check bytes accepted refused = one_of_both (plan_of_text bytes) accepted refused
 
 -- what is told
 if_told : (left : Option (List ℕ)) (P : List ℕ → Type 0) → ((bytes : List ℕ) → left ≡ Some bytes → P bytes) → IfSome left P
@@ -174,12 +265,12 @@ refused_told named left left' bytes refusal told h =
     let other : IsOtherForm h.command bytes = subst (IsOtherForm h.command) same (refused_form h.command h.bytes refusal h.is_answer) in
     subst (λ (n : Option Command). IsRefused n bytes) (sym h.is_named) (inr other)
 
--- what is printed is of the command's form
-printed_told : (named : Option Command) (left left' : Option (List ℕ)) (bytes text : List ℕ) → left ≡ Some bytes
-    → Answers named left left' (Printed text) → IsAccepted named bytes
-printed_told named left left' bytes text told h =
-    let same : h.bytes ≡ bytes = answers_told named left left' bytes (Printed text) told h in
-    let form : IsOfForm h.command bytes = subst (IsOfForm h.command) same (printed_form h.command h.bytes text h.is_answer) in
+-- what is done is of the command's form
+done_told : (named : Option Command) (left left' : Option (List ℕ)) (bytes : List ℕ) (answer : Answer) → left ≡ Some bytes
+    → Answers named left left' answer → IsDone (answer_status answer) → IsAccepted named bytes
+done_told named left left' bytes answer told h done =
+    let same : h.bytes ≡ bytes = answers_told named left left' bytes answer told h in
+    let form : IsOfForm h.command bytes = subst (IsOfForm h.command) same (accepted_form h.command h.bytes answer h.is_answer done) in
     let small : length bytes ≤ INPUT_LIMIT = subst (λ (l : List ℕ). length l ≤ INPUT_LIMIT) same h.fits in
     subst (λ (n : Option Command). IsAccepted n bytes) (sym h.is_named) (small, form)
 
@@ -189,6 +280,40 @@ one_of_two None bytes accepted refused = refused
 one_of_two (Some command) bytes accepted (inl large) = omega (arith, accepted.0, large)
 one_of_two (Some command) bytes accepted (inr other) = one_form command bytes accepted.1 other
 
+-- the line of an input that is too large, and of one that is of another form
+
+wrote_too_large : (taken taken' : Option (List ℕ)) (named : Option Command) (bytes : List ℕ) → IsSome named → IsTooLarge bytes
+    → Appends taken taken' (line (codes "refused too-large")) → WroteRefusal taken taken' named bytes
+wrote_too_large taken taken' None bytes some large wrote = absurd (no_command None refl some)
+wrote_too_large taken taken' (Some command) bytes some large wrote = (λ again. wrote, λ small. absurd (omega (arith, large, small)))
+
+wrote_answer : (taken taken' : Option (List ℕ)) (command : Command) (bytes : List ℕ) (refusal : Refusal) → length bytes ≤ INPUT_LIMIT → IsAnswer command bytes (Refused refusal)
+    → Appends taken taken' (answer_text (Refused refusal)) → WroteRefusal taken taken' (Some command) bytes
+wrote_answer taken taken' command bytes refusal small is wrote = (λ large. absurd (omega (arith, large, small)), λ again. (refusal, (is, wrote)))
+
+wrote_refused : (taken taken' : Option (List ℕ)) (named : Option Command) (left left' : Option (List ℕ)) (bytes : List ℕ) (refusal : Refusal) → left ≡ Some bytes
+    → Answers named left left' (Refused refusal) → Appends taken taken' (answer_text (Refused refusal)) → WroteRefusal taken taken' named bytes
+wrote_refused taken taken' named left left' bytes refusal told h wrote =
+    let same : h.bytes ≡ bytes = answers_told named left left' bytes (Refused refusal) told h in
+    let at_own : WroteRefusal taken taken' (Some h.command) h.bytes = wrote_answer taken taken' h.command h.bytes refusal h.fits h.is_answer wrote in
+    subst (λ (n : Option Command). WroteRefusal taken taken' n bytes) (sym h.is_named) (subst (WroteRefusal taken taken' (Some h.command)) same at_own)
+
+-- an answer over an input that is refused, and over one that is accepted
+
+refused_answered : (named : Option Command) (left left' : Option (List ℕ)) (bytes : List ℕ) (answer : Answer) → left ≡ Some bytes → Answers named left left' answer
+    → IsRefused named bytes → answer_status answer ≡ 5
+refused_answered named left left' bytes answer told h refused = elim (answer_is_done answer) [
+  | inl done ↦ absurd (one_of_two named bytes (done_told named left left' bytes answer told h done) refused)
+  | inr is ↦ refused_is_5 answer is.0 is.1
+]
+
+accepted_answered : (named : Option Command) (left left' : Option (List ℕ)) (bytes : List ℕ) (answer : Answer) → left ≡ Some bytes → Answers named left left' answer
+    → IsAccepted named bytes → IsDone (answer_status answer)
+accepted_answered named left left' bytes answer told h accepted = elim (answer_is_done answer) [
+  | inl done ↦ done
+  | inr is ↦ absurd (one_of_two named bytes accepted (refused_told named left left' bytes is.0 told (subst (Answers named left left') is.1 h)))
+]
+
 -- the ends over an input that is refused
 over_refused : (named : Option Command) (left left' : Option (List ℕ)) (reads reads' status : ℕ) (bytes : List ℕ) (ending : Ending) → MayEnd named left left' reads reads' ending
     → left ≡ Some bytes → IsRefused named bytes → status ≡ status_of ending → (status ≡ 5) ⊎ IsFault status
@@ -196,26 +321,25 @@ over_refused named left left' reads reads' status bytes Usage may told refused e
 over_refused named left left' reads reads' status bytes ReadFault may told refused e = inr (inl e)
 over_refused named left left' reads reads' status bytes NoMemory may told refused e = inr (inr (inr e))
 over_refused named left left' reads reads' status bytes TooLarge may told refused e = inl e
-over_refused named left left' reads reads' status bytes (Answered (Printed text)) may told refused e = absurd (one_of_two named bytes (printed_told named left left' bytes text told may) refused)
-over_refused named left left' reads reads' status bytes (Answered (Refused refusal)) may told refused e = inl e
+over_refused named left left' reads reads' status bytes (Answered answer) may told refused e = inl (e ∙ refused_answered named left left' bytes answer told may refused)
 
 -- the ends over an input that is accepted, where no read failed
 over_accepted : (named : Option Command) (left left' : Option (List ℕ)) (reads reads' status : ℕ) (bytes : List ℕ) (ending : Ending) → MayEnd named left left' reads reads' ending
-    → left ≡ Some bytes → IsAccepted named bytes → ¬ Rose reads reads' → status ≡ status_of ending → (status ≡ 0) ⊎ (status ≡ 3) ⊎ (status ≡ 4)
+    → left ≡ Some bytes → IsAccepted named bytes → ¬ Rose reads reads' → status ≡ status_of ending → IsDone status ⊎ (status ≡ 3) ⊎ (status ≡ 4)
 over_accepted named left left' reads reads' status bytes Usage may told accepted still e = absurd (subst (λ (n : Option Command). IsAccepted n bytes) may accepted)
 over_accepted named left left' reads reads' status bytes ReadFault may told accepted still e = absurd (still may.1)
 over_accepted named left left' reads reads' status bytes NoMemory may told accepted still e = inr (inr e)
 over_accepted named left left' reads reads' status bytes TooLarge may told accepted still e = absurd (one_of_two named bytes accepted (too_large_refused named bytes may.0 (over_limit_told left bytes told may.1)))
-over_accepted named left left' reads reads' status bytes (Answered (Printed text)) may told accepted still e = inl e
-over_accepted named left left' reads reads' status bytes (Answered (Refused refusal)) may told accepted still e = absurd (one_of_two named bytes accepted (refused_told named left left' bytes refusal told may))
+over_accepted named left left' reads reads' status bytes (Answered answer) may told accepted still e =
+    elim (accepted_answered named left left' bytes answer told may accepted) [ inl zero ↦ inl (inl (e ∙ zero)) | inr nine ↦ inl (inr (e ∙ nine)) ]
 
 module _ {named : Option Command} {left left' : Option (List ℕ)} {reads reads' : ℕ} {taken taken' : Option (List ℕ)} {writes writes' status : ℕ} where
   -- what was due was written whole where the status is none of a write fault
   due : (h : Ends named left left' reads reads' taken taken' writes writes' status) → status ≢ 3 → (status ≡ status_of h.ending) × Appends taken taken' (text_of h.ending)
   due h other = elim h.wrote [ inl w ↦ (w.0, w.1) | inr w ↦ absurd (other w.0) ]
 
-  pub status_small : Ends named left left' reads reads' taken taken' writes writes' status → status ≤ 5
-  status_small h = elim h.wrote [ inl w ↦ omega (arith, w.0, (status_of_is_due h.ending).0) | inr w ↦ omega (arith, w.0) ]
+  pub status_small : Ends named left left' reads reads' taken taken' writes writes' status → IsStatus status
+  status_small h = elim h.wrote [ inl w ↦ subst IsStatus (sym w.0) (status_of_is_due h.ending).0 | inr w ↦ inl (omega arith) ]
 
   pub usage_cause : Ends named left left' reads reads' taken taken' writes writes' status → status ≡ 1 → named ≡ None
   usage_cause h e =
@@ -241,8 +365,13 @@ module _ {named : Option Command} {left left' : Option (List ℕ)} {reads reads'
     no_memory = λ e. let d = due h (λ three. omega arith) in subst (Appends taken taken') (ap text_of (is_no_memory h.ending (sym d.0 ∙ e)) ∙ no_memory_text) d.1;
     refused = λ e. let d = due h (λ three. omega arith) in elim (is_refused h.ending (sym d.0 ∙ e)) [
       | inl is ↦ (codes "too-large", subst (Appends taken taken') (ap text_of is ∙ too_large_text) d.1)
-      | inr is ↦ (refusal_text is.0, subst (Appends taken taken') (ap text_of is.1 ∙ refused_text is.0) d.1)
+      | inr is ↦ (refusal_text is.0, subst (Appends taken taken') (ap text_of is.1 ∙ answered_text (Refused is.0)) d.1)
     ];
+    judged = λ e. let d = due h (λ three. omega arith) in
+        let at : status_of h.ending ≡ 9 = sym d.0 ∙ e in
+        let found = is_answered h.ending (inr at) in
+        let verdict = judged_answer found.0 (sym (ap status_of found.1) ∙ at) in
+        (verdict.0, subst (Appends taken taken') (ap text_of found.1 ∙ answered_text found.0 ∙ ap answer_text verdict.1) d.1);
   }
 
   -- the status is the one that is due, or 3
@@ -259,41 +388,91 @@ module _ {named : Option Command} {left left' : Option (List ℕ)} {reads reads'
   ])
 
   pub complete : Ends named left left' reads reads' taken taken' writes writes' status
-      → IfSome left (λ bytes. IsAccepted named bytes → ¬ Rose reads reads' → (status ≡ 0) ⊎ (status ≡ 3) ⊎ (status ≡ 4))
+      → IfSome left (λ bytes. IsAccepted named bytes → ¬ Rose reads reads' → IsDone status ⊎ (status ≡ 3) ⊎ (status ≡ 4))
   complete h = if_told left _ (λ bytes told accepted still. elim (due_or_three h) [
     | inl e ↦ over_accepted named left left' reads reads' status bytes h.ending h.may_end told accepted still e
     | inr three ↦ inr (inl three)
   ])
 
   refusal_may : (h : Ends named left left' reads reads' taken taken' writes writes' status) → status ≡ 5
-      → (IsSome named × IsOverLimit INPUT_LIMIT left) ⊎ ((refusal : Refusal) × Answers named left left' (Refused refusal))
+      → (IsSome named × IsOverLimit INPUT_LIMIT left × Appends taken taken' (line (codes "refused too-large")))
+      ⊎ ((refusal : Refusal) × (Answers named left left' (Refused refusal) × Appends taken taken' (answer_text (Refused refusal))))
   refusal_may h e = let d = due h (λ three. omega arith) in elim (is_refused h.ending (sym d.0 ∙ e)) [
-    | inl is ↦ inl (subst (MayEnd named left left' reads reads') is h.may_end)
-    | inr is ↦ inr (is.0, subst (MayEnd named left left' reads reads') is.1 h.may_end)
+    | inl is ↦ let may : IsSome named × IsOverLimit INPUT_LIMIT left = subst (MayEnd named left left' reads reads') is h.may_end in
+        inl (may.0, may.1, subst (Appends taken taken') (ap text_of is ∙ too_large_text) d.1)
+    | inr is ↦ inr (
+      is.0,
+      (
+        subst (MayEnd named left left' reads reads') is.1 h.may_end,
+        subst (Appends taken taken') (ap text_of is.1 ∙ answered_text (Refused is.0)) d.1,
+      ),
+    )
   ]
 
   pub refused_cause : Ends named left left' reads reads' taken taken' writes writes' status → status ≡ 5 → IfSome left (λ bytes. IsRefused named bytes)
   refused_cause h e = if_told left _ (λ bytes told. elim (refusal_may h e) [
     | inl large ↦ too_large_refused named bytes large.0 (over_limit_told left bytes told large.1)
-    | inr may ↦ refused_told named left left' bytes may.0 told may.1
+    | inr may ↦ refused_told named left left' bytes may.0 told may.1.0
+  ])
+
+  pub refusal_line : Ends named left left' reads reads' taken taken' writes writes' status → status ≡ 5 → IfSome left (λ bytes. WroteRefusal taken taken' named bytes)
+  refusal_line h e = if_told left _ (λ bytes told. elim (refusal_may h e) [
+    | inl large ↦ wrote_too_large taken taken' named bytes large.0 (over_limit_told left bytes told large.1) large.2
+    | inr may ↦ wrote_refused taken taken' named left left' bytes may.0 told may.1.0 may.1.1
   ])
 
   pub refused_to_end : Ends named left left' reads reads' taken taken' writes writes' status → status ≡ 5 → IsOverLimit INPUT_LIMIT left ⊎ IsAtEnd left'
-  refused_to_end h e = elim (refusal_may h e) [ inl large ↦ inl large.1 | inr may ↦ inr may.1.is_whole.ended ]
+  refused_to_end h e = elim (refusal_may h e) [ inl large ↦ inl large.1 | inr may ↦ inr may.1.0.is_whole.ended ]
 
-  printed_may : (h : Ends named left left' reads reads' taken taken' writes writes' status) → status ≡ 0
-      → (text : List ℕ) × (Answers named left left' (Printed text) × Appends taken taken' text)
-  printed_may h e = let d = due h (λ three. omega arith) in let is = is_printed h.ending (sym d.0 ∙ e) in
-      (is.0, (subst (MayEnd named left left' reads reads') is.1 h.may_end, subst (Appends taken taken') (ap text_of is.1 ∙ printed_text is.0) d.1))
+  answered_may : (h : Ends named left left' reads reads' taken taken' writes writes' status) → IsDone status
+      → (answer : Answer) × (Answers named left left' answer × (status ≡ answer_status answer) × Appends taken taken' (answer_text answer))
+  answered_may h done =
+      let d = due h (λ three. elim done [ inl zero ↦ omega arith | inr nine ↦ omega arith ]) in
+      let found = is_answered h.ending (subst IsDone d.0 done) in
+      (found.0, (subst (MayEnd named left left' reads reads') found.1 h.may_end, d.0 ∙ ap status_of found.1, subst (Appends taken taken') (ap text_of found.1 ∙ answered_text found.0) d.1))
 
-  pub printed_to_end : Ends named left left' reads reads' taken taken' writes writes' status → status ≡ 0 → IsAtEnd left'
-  printed_to_end h e = (printed_may h e).1.0.is_whole.ended
+  pub done_to_end : Ends named left left' reads reads' taken taken' writes writes' status → IsDone status → IsAtEnd left'
+  done_to_end h done = (answered_may h done).1.0.is_whole.ended
+
+  pub judged_cause : Ends named left left' reads reads' taken taken' writes writes' status → status ≡ 9 → named ≡ Some Check
+  judged_cause h nine =
+      let p = answered_may h (inr nine) in
+      let a : Answers named left left' p.0 = p.1.0 in
+      a.is_named ∙ ap Some (only_check a.command a.bytes p.0 a.is_answer (sym p.1.1 ∙ nine))
+
+  -- what `replay` answered to the text that it read
+  replay_answered : (h : Ends named left left' reads reads' taken taken' writes writes' status) → named ≡ Some Replay → status ≡ 0
+      → ReadWhole left left' (λ text. (answer : Answer) × (IsReplayAnswer (schedule_of text) answer × IsDone (answer_status answer) × Appends taken taken' (answer_text answer)))
+  replay_answered h replay zero =
+      let p = answered_may h (inl zero) in
+      let a : Answers named left left' p.0 = p.1.0 in
+      let is : a.command ≡ Replay = cc (a.is_named, replay) in
+      let answer = subst (λ (command : Command). IsAnswer command a.bytes p.0) is a.is_answer in
+      record { bytes = a.bytes; is_whole = a.is_whole; fits = a.fits; holds = (p.0, (answer, inl (sym p.1.1 ∙ zero), p.1.2)) }
 
   pub replayed : Ends named left left' reads reads' taken taken' writes writes' status → named ≡ Some Replay → status ≡ 0
-      → ReadWhole left left' (λ bytes. IsSomeAnd (schedule_of bytes) (λ schedule. Appends taken taken' (report_for schedule)))
-  replayed h replay e =
-      let p = printed_may h e in
-      let a : Answers named left left' (Printed p.0) = p.1.0 in
-      let is : a.command ≡ Replay = cc (a.is_named, replay) in
-      let made : replay_answer (schedule_of a.bytes) ≡ Printed p.0 = ap (λ (command : Command). answer_to command a.bytes) (sym is) ∙ a.is_answer in
-      record { bytes = a.bytes; is_whole = a.is_whole; fits = a.fits; holds = replay_wrote taken taken' (schedule_of a.bytes) p.0 p.1.1 made }
+      → ReadWhole left left' (λ text. IsSomeAnd (schedule_of text) (λ schedule. Appends taken taken' (report_for schedule)))
+  replayed h replay zero =
+      let r = replay_answered h replay zero in
+      record { bytes = r.bytes; is_whole = r.is_whole; fits = r.fits; holds = replay_wrote taken taken' (schedule_of r.bytes) r.holds.0 r.holds.1.0 r.holds.1.1 r.holds.1.2 }
+
+  pub safe : Ends named left left' reads reads' taken taken' writes writes' status → named ≡ Some Replay → status ≡ 0
+      → ReadWhole left left' (λ text. IsSomeAnd (schedule_of text) (λ schedule. IsSafe schedule.plan (world_of schedule)))
+  safe h replay zero =
+      let r = replay_answered h replay zero in
+      record { bytes = r.bytes; is_whole = r.is_whole; fits = r.fits; holds = replay_safe (schedule_of r.bytes) r.holds.0 r.holds.1.0 r.holds.1.1 }
+
+  pub checked : Ends named left left' reads reads' taken taken' writes writes' status → named ≡ Some Check → IsDone status
+      → ReadWhole left left' (λ text. IsOkAnd (plan_of_text text) (λ read. WroteVerdict taken taken' status read.0 read.1.pair))
+  checked h check done =
+      let p = answered_may h done in
+      let a : Answers named left left' p.0 = p.1.0 in
+      let is : a.command ≡ Check = cc (a.is_named, check) in
+      let answer = subst (λ (command : Command). IsAnswer command a.bytes p.0) is a.is_answer in
+      record { bytes = a.bytes; is_whole = a.is_whole; fits = a.fits; holds = check_wrote taken taken' status (plan_of_text a.bytes) p.0 answer (subst IsDone p.1.1 done) p.1.1 p.1.2 }
+
+  pub optimal : Ends named left left' reads reads' taken taken' writes writes' status → named ≡ Some Check → status ≡ 0
+      → ReadWhole left left' (λ text. IsOkAnd (plan_of_text text) (λ read. WroteOptimal taken taken' read.0 read.1.pair))
+  optimal h check zero =
+      let r = checked h check (inl zero) in
+      record { bytes = r.bytes; is_whole = r.is_whole; fits = r.fits; holds = read_optimal taken taken' status (plan_of_text r.bytes) zero r.holds }

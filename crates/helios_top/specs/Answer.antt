@@ -1,23 +1,60 @@
 -- What each command answers to its whole input.
-use Rattle.std.specs.Prelude.{ℕ, List, Option, Some, None, codes}
+use Rattle.std.specs.Prelude.{◌≡◌, ℕ, List, Option, Some, None, Result, Ok, Err}
+use Rattle.helios_model.specs.declared.plan.Certificate.{Certificate}
+use Rattle.helios_model.specs.Optimal.{IsOptimal}
+use Rattle.helios_model.specs.Setting.{Setting}
+use Rattle.commit_offsets.specs.declared.refusal.PlanRefusal.{PlanRefusal}
+use Rattle.commit_offsets.specs.Reading.{plan_of_text}
+use Rattle.plan_certificate.specs.declared.verdict.Verdict.{Verdict}
+use Rattle.plan_certificate.specs.declared.verdict.Verdict.TheVariants as verdicts
+use Rattle.plan_certificate.specs.Says.{Says}
 use Rattle.schedule_replay.specs.declared.schedule.Schedule.{Schedule}
+use Rattle.helios_model.specs.Laws.Safe.{IsSafe}
+use Rattle.helios_model.specs.World.{World}
+use Rattle.schedule_replay.specs.Report.{reached, report_of}
 use Rattle.helios_top.specs.declared.words.Command.{Command}
-use Rattle.helios_top.specs.declared.words.Command.TheVariants.{Replay}
-use Rattle.helios_top.specs.declared.ending.Refusal.TheVariants.{Unbuilt}
+use Rattle.helios_top.specs.declared.words.Command.TheVariants.{Check, Replay}
+use Rattle.helios_top.specs.declared.ending.Refusal.TheVariants.{OfPlan, Unbuilt}
 use Rattle.helios_top.specs.declared.ending.Answer.{Answer}
-use Rattle.helios_top.specs.declared.ending.Answer.TheVariants.{Printed, Refused}
-use Rattle.helios_top.specs.Ending.{line}
+use Rattle.helios_top.specs.declared.ending.Answer.TheVariants.{Judged, Printed, Refused}
 use Rattle.helios_top.specs.Reading.{schedule_of}
 
--- the report of a schedule
-abbrev pub report_for : Schedule → List ℕ
-report_for schedule = line (codes "site 0 time 0 log 0 pending 0")
+-- the report of the world that a schedule reaches
+unfoldable pub report_for : Schedule → List ℕ
+report_for schedule = report_of schedule.plan schedule.steps
 
--- what `replay` answers to the schedule that a text says, if it says one
-abbrev pub replay_answer : Option Schedule → Answer
-replay_answer None = Refused Unbuilt
-replay_answer (Some schedule) = Printed (report_for schedule)
+-- the world that a schedule reaches
+abbrev pub world_of : Schedule → World
+world_of schedule = reached schedule.plan schedule.steps
+
+-- the report of the schedule is printed, and the world that it reports is safe
+pub record IsReported (schedule : Schedule) (answer : Answer) : Type 0 where
+  pub printed : answer ≡ Printed (report_for schedule)
+  pub safe : IsSafe schedule.plan (world_of schedule)
+
+-- `replay` answers with the report of the schedule that the text says, if it says one
+abbrev pub IsReplayAnswer : Option Schedule → Answer → Type 0
+IsReplayAnswer None answer = answer ≡ Refused Unbuilt
+IsReplayAnswer (Some schedule) answer = IsReported schedule answer
+
+-- a plan that is called optimal is optimal
+abbrev pub IsProved : Setting → Verdict → Type 0
+IsProved plan (verdicts.Optimal total) = IsOptimal plan
+IsProved plan (verdicts.Short i j) = Unit {0}
+IsProved plan (verdicts.NoPairing i) = Unit {0}
+IsProved plan (verdicts.ValueDiffers given value) = Unit {0}
+
+-- the verdict on a plan and its pairing
+pub record IsVerdict (plan : Setting) (pair : List ℕ) (verdict : Verdict) : Type 0 where
+  pub says : Says plan pair verdict
+  pub proved : IsProved plan verdict
+
+-- `check` answers with the refusal of the text, or with the verdict on the plan that it says
+abbrev pub IsCheckAnswer : Result (Setting × Certificate) PlanRefusal → Answer → Type 0
+IsCheckAnswer (Err refusal) answer = answer ≡ Refused (OfPlan refusal)
+IsCheckAnswer (Ok read) answer = (verdict : Verdict) × (IsVerdict read.0 read.1.pair verdict × (answer ≡ Judged verdict))
 
 -- what a command answers to an input that it reads whole
-abbrev pub answer_to : Command → List ℕ → Answer
-answer_to Replay text = replay_answer (schedule_of text)
+abbrev pub IsAnswer : Command → List ℕ → Answer → Type 0
+IsAnswer Replay text answer = IsReplayAnswer (schedule_of text) answer
+IsAnswer Check text answer = IsCheckAnswer (plan_of_text text) answer

@@ -1,15 +1,10 @@
 -- What a JSON text says.
-use Rattle.std.specs.Prelude.{◌≡◌, ℕ, Bool, false, List, Option, Some, None, Result, Ok, Err, option_and_then, if◌then◌else◌}
-use Rattle.std.specs.Str.{bytes_eq, is_utf8}
+use Rattle.std.specs.Prelude.{◌≡◌, ℕ, Bool, false, List, Option, Some, None, Result, Ok, Err, option_and_then}
+use Rattle.std.specs.Str.{bytes_eq}
 use Rattle.serde_json.specs.Data.{Data, Items, item, no_items}
-use Rattle.serde_json.specs.Find.{as_array, as_number, as_str, as_u64}
-use Rattle.serde_json.specs.Read.{read}
+use Rattle.serde_json.specs.Find.{as_array, as_str}
 use Rattle.helios_top.specs.declared.json.Unread.{Unread}
 use Rattle.helios_top.specs.declared.json.Unread.TheVariants.{Unbuilt, NoMemory}
-
--- the value that a whole text is
-unfoldable pub json_of : List ℕ → Option Data
-json_of bytes = if is_utf8 bytes then read bytes else None
 
 -- what a reader fails by is what the text says, unless memory ran out
 abbrev pub Fails : {T : Type 0} → Unread → Option T → Type 0
@@ -35,10 +30,6 @@ lone_item (item d (item e ds)) = None
 -- the only item of an array
 abbrev pub only : Option Data → Option Data
 only value = option_and_then lone_item (option_and_then as_array value)
-
--- the whole number that a value is
-abbrev pub whole_number : Data → Option ℕ
-whole_number d = option_and_then as_u64 (as_number d)
 
 -- whether what was found is this text
 abbrev pub is_same_text : List ℕ → Option (List ℕ) → Bool

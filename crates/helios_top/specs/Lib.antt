@@ -4,3 +4,5 @@ pub mod Json
 pub mod Reading
 pub mod Run
 pub mod Words
+pub mod Spelling
+pub mod Stepping

@@ -1,11 +1,13 @@
 -- What a text says as a schedule that `replay` takes.
 use Rattle.std.specs.Prelude.{ℕ, Bool, true, false, ◌&&◌, ◌==◌, ℤ, pos, negsuc, List, [], ◌∷◌, Option, Some, None, option_and_then, codes, if◌then◌else◌}
-use Rattle.serde_json.specs.Data.{Data, Items, item, no_items}
+use Rattle.serde_json.specs.Data.{Data}
 use Rattle.serde_json.specs.Find.{as_array, as_i64, as_number, get}
 use Rattle.helios_model.specs.Setting.{Setting}
-use Rattle.schedule_replay.specs.declared.steps.Step.{Step}
 use Rattle.schedule_replay.specs.declared.schedule.Schedule.{Schedule}
-use Rattle.helios_top.specs.Json.{◌>>=◌, is_text, json_of, only, whole_number}
+use Rattle.helios_top.specs.Stepping.{steps_of}
+use Rattle.json_text.specs.Arrays.{whole_number}
+use Rattle.json_text.specs.Text.{json_of}
+use Rattle.helios_top.specs.Json.{◌>>=◌, is_text, only}
 
 -- whether what was found is this number
 abbrev pub is_same_number : ℕ → Option ℕ → Bool
@@ -45,16 +47,11 @@ one_site = record { names = codes "A" ∷ []; trips = 0 ∷ []; latencies = 0 �
 unfoldable pub plan_at : Data → Option Setting
 plan_at d = if is_one_site_plan d then Some one_site else None
 
--- the steps that an array says: no step is built
-abbrev pub steps_from : Items → Option (List Step)
-steps_from no_items = Some []
-steps_from (item d ds) = None
-
 -- the schedule that a value says
 unfoldable pub schedule_at : Data → Option Schedule
 schedule_at d = do
   plan ← get (codes "plan") d >>= plan_at
-  steps ← (get (codes "steps") d >>= as_array) >>= steps_from
+  steps ← (get (codes "steps") d >>= as_array) >>= steps_of
   Some (record { plan = plan; steps = steps })
 
 -- the schedule that a text says

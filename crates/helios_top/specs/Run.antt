@@ -1,16 +1,23 @@
 -- When a run may end in each way, and what it writes.
-use Rattle.std.specs.Prelude.{◌≡◌, ℕ, ◌<◌, ◌≤◌, ◌⊎◌, List, ◌++◌, Option, Some, None, IsSome, length, codes}
+use Rattle.std.specs.Prelude.{◌≡◌, ℕ, ◌<◌, ◌≤◌, ◌⊎◌, List, ◌++◌, Option, Some, None, Result, IsSome, IsOk, IsErr, length, codes, decimal, sum}
 use Rattle.std.specs.Io.KnownBytes.{Appends}
+use Rattle.commit_offsets.specs.Reading.{plan_of_text}
+use Rattle.helios_model.specs.Certificate.{IsCertificate}
+use Rattle.helios_model.specs.Optimal.{IsOptimal}
+use Rattle.helios_model.specs.Setting.{Setting, IsAccepted as IsAcceptedPlan}
 use Rattle.outside_io.specs.Causes.{Rose}
 use Rattle.outside_io.specs.Whole.{AppendsPrefix, IsOverLimit, IsWholeInput}
+use Rattle.plan_certificate.specs.declared.verdict.Verdict.{Verdict}
 use Rattle.helios_top.specs.declared.TheConstants.{INPUT_LIMIT}
 use Rattle.helios_top.specs.declared.words.Command.{Command}
-use Rattle.helios_top.specs.declared.words.Command.TheVariants.{Replay}
+use Rattle.helios_top.specs.declared.words.Command.TheVariants.{Check, Replay}
+use Rattle.helios_top.specs.declared.ending.Refusal.{Refusal}
 use Rattle.helios_top.specs.declared.ending.Answer.{Answer}
+use Rattle.helios_top.specs.declared.ending.Answer.TheVariants.{Refused}
 use Rattle.helios_top.specs.declared.ending.Ending.{Ending}
 use Rattle.helios_top.specs.declared.ending.Ending.TheVariants.{Usage, ReadFault, NoMemory, TooLarge, Answered}
-use Rattle.helios_top.specs.Answer.{answer_to}
-use Rattle.helios_top.specs.Ending.{line, status_of, text_of}
+use Rattle.helios_top.specs.Answer.{IsAnswer, IsVerdict}
+use Rattle.helios_top.specs.Ending.{answer_text, line, status_of, text_of, verdict_status, verdict_text}
 use Rattle.helios_top.specs.Reading.{schedule_of}
 
 -- the words name a command, its input was read whole and to its end and is within the limit, and this is the answer to it
@@ -20,7 +27,7 @@ pub record Answers (named : Option Command) (left left' : Option (List ℕ)) (an
   pub is_named : named ≡ Some command
   pub is_whole : IsWholeInput left left' bytes
   pub fits : length bytes ≤ INPUT_LIMIT
-  pub is_answer : answer_to command bytes ≡ answer
+  pub is_answer : IsAnswer command bytes answer
 
 -- when a run may end so: `left` and `reads` are the bytes still to be read and the count of faults before it, `left'` and `reads'` after it
 abbrev pub MayEnd : Option Command → Option (List ℕ) → Option (List ℕ) → ℕ → ℕ → Ending → Type 0
@@ -44,12 +51,17 @@ pub record Ends (named : Option Command) (left left' : Option (List ℕ)) (reads
   pub may_end : MayEnd named left left' reads reads' ending
   pub wrote : Wrote taken taken' writes writes' status ending
 
+-- the statuses of a run: 0 to 5, and 9
+abbrev pub IsStatus : ℕ → Type 0
+IsStatus status = (status ≤ 5) ⊎ (status ≡ 9)
+
 -- at each status but 0 and 3, one line was written and nothing else
 pub record WroteOneLine (taken taken' : Option (List ℕ)) (status : ℕ) : Type 0 where
   pub usage : status ≡ 1 → Appends taken taken' (line (codes "usage: helios COMMAND [WORDS]"))
   pub read_fault : status ≡ 2 → Appends taken taken' (line (codes "fault read"))
   pub no_memory : status ≡ 4 → Appends taken taken' (line (codes "fault memory"))
   pub refused : status ≡ 5 → (name : List ℕ) × Appends taken taken' (line (codes "refused " ++ name))
+  pub judged : status ≡ 9 → (verdict : Verdict) × Appends taken taken' (line (verdict_text verdict))
 
 -- the whole input was read, to its end, and is within the limit, and this holds of its bytes
 pub record ReadWhole (left left' : Option (List ℕ)) (Holds : List ℕ → Type 0) : Type 0 where
@@ -69,17 +81,43 @@ IsTooLarge bytes = INPUT_LIMIT < length bytes
 -- the input is not of the form that the command accepts
 abbrev pub IsOtherForm : Command → List ℕ → Type 0
 IsOtherForm Replay bytes = schedule_of bytes ≡ None
+IsOtherForm Check bytes = IsErr (plan_of_text bytes)
 
 -- the words name a command, which refuses this input
 abbrev pub IsRefused : Option Command → List ℕ → Type 0
 IsRefused None bytes = ⊥
 IsRefused (Some command) bytes = IsTooLarge bytes ⊎ IsOtherForm command bytes
 
+-- the line that names why the input is refused was written: its length before its form
+abbrev pub WroteRefusal : Option (List ℕ) → Option (List ℕ) → Option Command → List ℕ → Type 0
+WroteRefusal taken taken' None bytes = ⊥
+WroteRefusal taken taken' (Some command) bytes = (IsTooLarge bytes → Appends taken taken' (line (codes "refused too-large")))
+    × (length bytes ≤ INPUT_LIMIT → (refusal : Refusal) × (IsAnswer command bytes (Refused refusal) × Appends taken taken' (answer_text (Refused refusal))))
+
 -- the input is of the form that the command accepts
 abbrev pub IsOfForm : Command → List ℕ → Type 0
 IsOfForm Replay bytes = IsSome (schedule_of bytes)
+IsOfForm Check bytes = IsOk (plan_of_text bytes)
 
 -- the words name a command, which accepts this input
 abbrev pub IsAccepted : Option Command → List ℕ → Type 0
 IsAccepted None bytes = ⊥
 IsAccepted (Some command) bytes = (length bytes ≤ INPUT_LIMIT) × IsOfForm command bytes
+
+-- the statuses of an answer to an input that is accepted
+abbrev pub IsDone : ℕ → Type 0
+IsDone status = (status ≡ 0) ⊎ (status ≡ 9)
+
+-- the line of a verdict on the plan was written, with its status
+pub record WroteVerdict (taken taken' : Option (List ℕ)) (status : ℕ) (plan : Setting) (pair : List ℕ) : Type 0 where
+  pub verdict : Verdict
+  pub is_verdict : IsVerdict plan pair verdict
+  pub due : status ≡ verdict_status verdict
+  pub written : Appends taken taken' (line (verdict_text verdict))
+
+-- the plan is accepted, its pairing proves it optimal, and the line that says so with its total was written
+pub record WroteOptimal (taken taken' : Option (List ℕ)) (plan : Setting) (pair : List ℕ) : Type 0 where
+  pub accepted : IsAcceptedPlan plan
+  pub certificate : IsCertificate plan pair
+  pub optimal : IsOptimal plan
+  pub written : Appends taken taken' (line (codes "optimal " ++ decimal (sum plan.latencies)))

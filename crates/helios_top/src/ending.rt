@@ -1,7 +1,9 @@
 ghost use Rattle.std.specs.Prelude.{◌≡◌, Some, IfOk, string_bytes};
-ghost use Rattle.helios_top.specs.Ending.{answer_status, answer_text, refusal_text, status_of, text_of};
+ghost use Rattle.helios_top.specs.Ending.{answer_status, answer_text, refusal_text, status_of, text_of, verdict_status, verdict_text};
 
+use commit_offsets::PlanRefusal;
 use helios_model::numbers::Bytes;
+use plan_certificate::Verdict;
 use std::alloc::{AllocError, Global};
 use std::fmt;
 
@@ -14,6 +16,8 @@ pub struct Status(pub u8);
 pub enum Refusal {
     /// The input is in no form that is built.
     Unbuilt,
+    /// The text of a plan breaks a rule.
+    OfPlan(PlanRefusal),
 }
 
 /// What a command comes to over an input that it read whole.
@@ -21,6 +25,8 @@ pub enum Refusal {
 pub enum Answer {
     /// The text that the command prints.
     Printed(Bytes),
+    /// The verdict on a plan.
+    Judged(Verdict),
     /// The input is not accepted.
     Refused(Refusal),
 }
@@ -46,6 +52,37 @@ impl fmt::Display for Refusal {
     fn fmt<W: fmt::Write>(&self, f: &mut fmt::Formatter<W>) -> fmt::Result {
         match self {
             Refusal::Unbuilt => write!(f, "unbuilt"),
+            Refusal::OfPlan(refusal) => write!(f, "{refusal}"),
+        }
+    }
+}
+
+fn verdict_status(verdict: &Verdict) -> u8
+    ensures { result ≡ verdict_status verdict.now }
+{
+    match verdict {
+        Verdict::Optimal(_) => 0,
+        Verdict::Short(..) | Verdict::NoPairing(_) | Verdict::ValueDiffers(..) => 9,
+    }
+}
+
+/// A verdict as it is printed, with its numbers.
+#[derive(Drop)]
+struct VerdictText(Verdict);
+
+impl fmt::Display for VerdictText {
+    ghost output = { λ shown. Some (verdict_text shown.0) };
+
+    fn fmt<W: fmt::Write>(&self, f: &mut fmt::Formatter<W>) -> fmt::Result {
+        match &self.0 {
+            Verdict::Optimal(total) => write!(f, "optimal {total}"),
+            Verdict::Short(i, j) => {
+                let i = i.number();
+                let j = j.number();
+                write!(f, "short {i} {j}")
+            }
+            Verdict::NoPairing(i) => write!(f, "no-pairing {i}"),
+            Verdict::ValueDiffers(given, value) => write!(f, "value-differs {given} {value}"),
         }
     }
 }
@@ -57,6 +94,7 @@ impl Answer {
     {
         match self {
             Answer::Printed(_) => 0,
+            Answer::Judged(verdict) => verdict_status(verdict),
             Answer::Refused(_) => 5,
         }
     }
@@ -67,6 +105,10 @@ impl Answer {
     {
         match self {
             Answer::Printed(text) => Ok(text),
+            Answer::Judged(verdict) => {
+                let verdict = VerdictText(verdict);
+                Ok(text_from(format!(in alloc; "{verdict}\n")?))
+            }
             Answer::Refused(refusal) => Ok(text_from(format!(in alloc; "refused {refusal}\n")?)),
         }
     }

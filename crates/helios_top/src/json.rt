@@ -1,9 +1,9 @@
-ghost use Rattle.std.specs.Prelude.{◌≡◌, Option, Result, IfOk, option_map};
+ghost use Rattle.std.specs.Prelude.{◌≡◌, option_map};
 ghost use Rattle.serde_json.specs.View.{items_view, view};
-ghost use Rattle.helios_top.specs.Json.{is_text, json_of, lone_item, only};
+ghost use Rattle.helios_top.specs.Json.{is_text, lone_item, only};
 
 use serde_json::Value;
-use std::alloc::{AllocError, AllocFailed, Global};
+use std::alloc::{AllocError, AllocFailed};
 
 /// Why a text was not read.
 #[derive(Clone, Copy, Debug, PartialEq, Eq)]
@@ -33,24 +33,6 @@ impl<T: Drop> From<AllocFailed<T>> for Unread {
 
     fn from(_refused: AllocFailed<T>) -> Unread {
         Unread::NoMemory
-    }
-}
-
-/// The value that the whole text is.
-#[tactic(auto, using(crate::proofs::Texts::json_found, crate::proofs::Texts::json_refused))]
-pub(crate) fn value_of(alloc: Global, text: &[u8]) -> Result<Value, Unread>
-    ensures ok { IfOk result (λ v. json_of text.now ≡ Option.Some (view v)) }
-    ensures unbuilt { result ≡ Result.Err Unread.Unbuilt → json_of text.now ≡ Option.None }
-{
-    match Value::from_slice(alloc, text) {
-        Ok(value) => Ok(value),
-        Err(error) => {
-            if error.is_memory() {
-                Err(Unread::NoMemory)
-            } else {
-                Err(Unread::Unbuilt)
-            }
-        }
     }
 }
 

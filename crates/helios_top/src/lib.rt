@@ -2,10 +2,13 @@
 //! bytes of an input to one text or one line and an exit status.
 #![tactic(auto)]
 
+mod check;
 mod ending;
 mod json;
 mod reading;
 mod replay;
+mod spelling;
+mod steps;
 #[cfg(test)]
 mod tests;
 mod top;

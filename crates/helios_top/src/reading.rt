@@ -3,15 +3,17 @@ ghost use Rattle.serde_json.specs.View.{items_view, view};
 ghost use Rattle.serde_json.specs.Find.{as_array};
 ghost use Rattle.schedule_replay.specs.Replayable.{IsReplayable};
 ghost use Rattle.helios_top.specs.Json.{Gives};
-ghost use Rattle.helios_top.specs.Reading.{is_number, is_one_site_plan, is_signed_zero, one_site, plan_at, schedule_at, schedule_of, steps_from};
+ghost use Rattle.helios_top.specs.Reading.{is_number, is_one_site_plan, is_signed_zero, one_site, plan_at, schedule_at, schedule_of};
+ghost use Rattle.helios_top.specs.Stepping.{steps_of};
 
-use crate::json::{Unread, is_text, only, value_of};
+use crate::json::{Unread, is_text, only};
+use crate::steps::steps_from;
 use helios_model::names::{Name, Names};
 use helios_model::numbers::Times;
 use helios_model::plan::Plan;
+use json_text::value_of;
 use schedule_replay::schedule::Schedule;
 use schedule_replay::step_lists::StepList;
-use schedule_replay::steps::Step;
 use serde_json::Value;
 use std::alloc::{AllocError, Global};
 
@@ -20,7 +22,7 @@ use std::alloc::{AllocError, Global};
 pub(crate) fn read_schedule(alloc: Global, text: &[u8]) -> Result<Schedule, Unread>
     ensures { Gives result (schedule_of text.now) }
 {
-    let value = value_of(alloc, text)?;
+    let value = value_of(alloc, text)?.ok_or(Unread::Unbuilt)?;
     schedule_from(alloc, &value)
 }
 
@@ -102,21 +104,10 @@ fn one_site(alloc: Global) -> Result<Plan, AllocError>
 }
 
 fn steps_in(alloc: Global, array: Option<&Vec<Value>>) -> Result<StepList, Unread>
-    ensures { Gives result (option_and_then steps_from (option_map (λ v. items_view v.now.items) array.entry)) }
+    ensures { Gives result (option_and_then steps_of (option_map (λ v. items_view v.now.items) array.entry)) }
 {
     match array {
-        Some(items) => steps_of(alloc, items.as_slice()),
+        Some(items) => steps_from(alloc, items),
         None => Err(Unread::Unbuilt),
-    }
-}
-
-#[tactic(auto, using(crate::proofs::Items::no_steps_from, crate::proofs::Items::some_steps_from))]
-fn steps_of(alloc: Global, items: &[Value]) -> Result<StepList, Unread>
-    ensures { Gives result (steps_from (items_view items.now)) }
-{
-    if items.is_empty() {
-        Ok(StepList::new(Vec::new(alloc)))
-    } else {
-        Err(Unread::Unbuilt)
     }
 }

@@ -40,7 +40,7 @@ fn run_over(
         texts.push(String::from_str(alloc, word)?)?;
     }
     let mut source = MemSource::new(input, piece, reads.to_vec(alloc)?);
-    let mut sink = MemSink::new(alloc, 100, piece, writes.to_vec(alloc)?)?;
+    let mut sink = MemSink::new(alloc, 1000, piece, writes.to_vec(alloc)?)?;
     let status = run(alloc, &texts, &mut source, &mut sink);
     Ok(Outcome {
         status: status.0,
@@ -51,7 +51,7 @@ fn run_over(
 
 #[test]
 fn answers_each_input(rt: HostRuntime) -> Result<(), Fail> {
-    let cases: [(&[&str], &str, u8, &str); 13] = [
+    let cases: [(&[&str], &str, u8, &str); 17] = [
         (&["replay"], EMPTY, 0, REPORT),
         (&["replay"], "", 5, UNBUILT),
         (&["replay"], "[", 5, UNBUILT),
@@ -59,6 +59,25 @@ fn answers_each_input(rt: HostRuntime) -> Result<(), Fail> {
         (&["replay", "x"], EMPTY, 1, USAGE),
         (&["Replay"], EMPTY, 1, USAGE),
         (&["--help"], EMPTY, 1, USAGE),
+        (
+            &["check"],
+            r#"{"latency":[10000,50000,30000],"names":["A","B","C"],"offset":[[0,-20000,-10000],[20000,0,10000],[10000,-10000,0]],"pair":[1,2,0],"rtt":[[0,30000,20000],[30000,0,40000],[20000,40000,0]],"total":90000,"version":1}"#,
+            0,
+            "optimal 90000\n",
+        ),
+        (
+            &["check"],
+            r#"{"latency":[200,200,200],"names":["A","B","C"],"offset":[[0,100,100],[100,0,200],[100,200,0]],"pair":[1,0,2],"rtt":[[0,100,100],[100,0,0],[100,0,0]],"total":600,"version":1}"#,
+            9,
+            "value-differs 600 200\n",
+        ),
+        (
+            &["check"],
+            r#"{"latency":[200,200,200],"names":["A","B","C"],"offset":[[0,100,100],[100,0,200],[100,200,0]],"pair":[1,0,0],"rtt":[[0,100,100],[100,0,0],[100,0,0]],"total":600,"version":1}"#,
+            9,
+            "no-pairing 2\n",
+        ),
+        (&["check"], "", 5, "refused not-json\n"),
         (
             &["replay"],
             r#"{"steps":[],"more":{},"plan":{"x":1,"version":1,"total":0,"rtt":[[0]],"pair":[0],"offset":[[0]],"names":["A"],"latency":[0]}}"#,
@@ -109,6 +128,146 @@ fn answers_each_input(rt: HostRuntime) -> Result<(), Fail> {
         assert_eq!(rt; got.written.as_slice(), text.as_bytes(), "{input}");
         let unread = if status == 1 { input.len() } else { 0 };
         assert_eq!(rt; got.left, unread, "{input}");
+    }
+    Ok(())
+}
+
+/// The schedule of one site with these steps.
+fn schedule_text(alloc: Global, steps: &str) -> Result<Vec<u8>, AllocError> {
+    let plan =
+        r#"{"latency":[0],"names":["A"],"offset":[[0]],"pair":[0],"rtt":[[0]],"total":0,"version":1}"#;
+    let text = format!(in alloc; "{{\"plan\":{plan},\"steps\":[{steps}]}}")?;
+    Ok(text.into_bytes())
+}
+
+#[test]
+fn replays_requests(rt: HostRuntime) -> Result<(), Fail> {
+    let one = "0 0 committed 0@1000\ncommit 0@1000\nsite 0 time 1001 log 2 pending 0\n";
+    let two =
+        "0 0 committed 0@1000\n1 0 committed 0@1002\ncommit 0@1000\ncommit 0@1002\nsite 0 time 1003 log 4 pending 0\n";
+    let three =
+        "0 0 committed 0@1000\n1 0 committed 0@1002\n2 0 overwritten x 0@1002\ncommit 0@1000\ncommit 0@1002\nsite 0 time 1003 log 4 pending 0\n";
+    let first = r#"{"site":0,"inputs":[{"at":1000,"reads":[],"writes":[["x","v1"]]}]}"#;
+    let second =
+        r#"{"site":0,"inputs":[{"at":1000,"reads":[["x","0@1000"]],"writes":[["x","v2"]]}]}"#;
+    let twice = format!(in rt.alloc(); "{first},{second}")?;
+    let thrice = format!(in rt.alloc(); "{first},{second},{second}")?;
+    for (steps, text) in [
+        (first, one),
+        (twice.as_str(), two),
+        (thrice.as_str(), three),
+    ] {
+        let got = run_over(
+            rt.alloc(),
+            &["replay"],
+            schedule_text(rt.alloc(), steps)?,
+            7,
+            &[],
+            &[],
+        )?;
+        assert_eq!(rt; got.status, 0, "{steps}");
+        assert_eq!(rt; got.written.as_slice(), text.as_bytes(), "{steps}");
+    }
+    Ok(())
+}
+
+#[test]
+fn takes_each_form_and_no_other(rt: HostRuntime) -> Result<(), Fail> {
+    let cases = [
+        (
+            r#"{"site":0,"inputs":[{"at":18446744073709551615,"reads":[],"writes":[],"x":1}],"y":null}"#,
+            0,
+        ),
+        (
+            r#"{"site":0,"inputs":[{"at":1,"reads":[["a","initial"],["b","31@4611686018427387904"]],"writes":[["a",""]]}]}"#,
+            0,
+        ),
+        (
+            r#"{"site":1,"inputs":[{"at":1,"reads":[],"writes":[]}]}"#,
+            5,
+        ),
+        (r#"{"site":0,"inputs":[]}"#, 5),
+        (
+            r#"{"site":0,"inputs":[{"at":1,"reads":[],"writes":[]},{"at":1,"reads":[],"writes":[]}]}"#,
+            5,
+        ),
+        (
+            r#"{"site":0,"inputs":[{"at":1,"reads":[],"writes":[]}],"stop":null}"#,
+            5,
+        ),
+        (
+            r#"{"site":0,"inputs":[{"at":1,"reads":[],"writes":[]}],"restart":0}"#,
+            5,
+        ),
+        (r#"{"restart":0}"#, 5),
+        (
+            r#"{"site":0,"inputs":[{"at":1,"reads":[],"writes":[],"push":null}]}"#,
+            5,
+        ),
+        (
+            r#"{"site":0,"inputs":[{"at":1.0,"reads":[],"writes":[]}]}"#,
+            5,
+        ),
+        (r#"{"site":0,"inputs":[{"at":1,"reads":[]}]}"#, 5),
+        (
+            r#"{"site":0,"inputs":[{"at":1,"reads":[["a","current"]],"writes":[]}]}"#,
+            5,
+        ),
+        (
+            r#"{"site":0,"inputs":[{"at":1,"reads":[["a","0@0"]],"writes":[]}]}"#,
+            5,
+        ),
+        (
+            r#"{"site":0,"inputs":[{"at":1,"reads":[["a","0@01"]],"writes":[]}]}"#,
+            5,
+        ),
+        (
+            r#"{"site":0,"inputs":[{"at":1,"reads":[["a","32@1"]],"writes":[]}]}"#,
+            5,
+        ),
+        (
+            r#"{"site":0,"inputs":[{"at":1,"reads":[["a","+0@1"]],"writes":[]}]}"#,
+            5,
+        ),
+        (
+            r#"{"site":0,"inputs":[{"at":1,"reads":[["a","0@4611686018427387905"]],"writes":[]}]}"#,
+            5,
+        ),
+        (
+            r#"{"site":0,"inputs":[{"at":1,"reads":[["a","initial"],["a","0@1"]],"writes":[]}]}"#,
+            5,
+        ),
+        (
+            r#"{"site":0,"inputs":[{"at":1,"reads":[["a","initial",1]],"writes":[]}]}"#,
+            5,
+        ),
+        (
+            r#"{"site":0,"inputs":[{"at":1,"reads":[],"writes":[["a=","1"]]}]}"#,
+            5,
+        ),
+        (
+            r#"{"site":0,"inputs":[{"at":1,"reads":[],"writes":[["","1"]]}]}"#,
+            5,
+        ),
+        (
+            r#"{"site":0,"inputs":[{"at":1,"reads":[],"writes":[["a","1"],["b","1"],["a","2"]]}]}"#,
+            5,
+        ),
+        (
+            r#"{"site":0,"inputs":[{"at":1,"reads":[],"writes":[["a",1]]}]}"#,
+            5,
+        ),
+    ];
+    for (steps, status) in cases {
+        let got = run_over(
+            rt.alloc(),
+            &["replay"],
+            schedule_text(rt.alloc(), steps)?,
+            64,
+            &[],
+            &[],
+        )?;
+        assert_eq!(rt; got.status, status, "{steps}");
     }
     Ok(())
 }

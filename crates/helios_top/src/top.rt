@@ -1,16 +1,18 @@
-ghost use Rattle.std.specs.Prelude.{◌≡◌, ◌≤◌, ◌⊎◌, None, Some, IfOk, IfSome, IsSomeAnd, MatchResult};
+ghost use Rattle.std.specs.Prelude.{◌≡◌, ◌⊎◌, None, Some, IfOk, IfSome, IsOkAnd, IsSomeAnd, MatchResult};
 ghost use Rattle.std.specs.Io.KnownBytes.{Appends, IsAtEnd};
+ghost use Rattle.commit_offsets.specs.Reading.{plan_of_text};
+ghost use Rattle.helios_model.specs.Laws.Safe.{IsSafe};
 ghost use Rattle.outside_io.specs.Causes.{Rose};
 ghost use Rattle.outside_io.specs.Whole.{AppendsPrefix, IsOverLimit};
 ghost use Rattle.helios_top.specs.declared.ending.Ending.{Ending};
-ghost use Rattle.helios_top.specs.Answer.{answer_to, report_for};
+ghost use Rattle.helios_top.specs.Answer.{IsAnswer, report_for, world_of};
 ghost use Rattle.helios_top.specs.Ending.{text_of};
 ghost use Rattle.helios_top.specs.Reading.{schedule_of};
-ghost use Rattle.helios_top.specs.Run.{Ends, IsAccepted, IsFault, IsRefused, MayEnd, ReadWhole, Wrote, WroteOneLine, WroteText};
+ghost use Rattle.helios_top.specs.Run.{Ends, IsAccepted, IsDone, IsFault, IsRefused, IsStatus, MayEnd, ReadWhole, Wrote, WroteOneLine, WroteOptimal, WroteRefusal, WroteText, WroteVerdict};
 ghost use Rattle.helios_top.specs.Words.{command_of, texts};
 
 use crate::words::read_words;
-use crate::{Answer, Command, Ending, INPUT_LIMIT, Status, replay};
+use crate::{Answer, Command, Ending, INPUT_LIMIT, Status, check, replay};
 use outside_io::{InputError, Sink, Source, read_whole, write_whole};
 use std::alloc::{AllocError, Global};
 
@@ -26,7 +28,7 @@ pub fn run<S: Source, K: Sink>(
     ensures ends { Ends (command_of (texts words.now.items)) (S.left input.old) (S.left input.new)
         (S.faults input.old) (S.faults input.new) (K.taken output.old) (K.taken output.new)
         (K.faults output.old) (K.faults output.new) result.0 }
-    ensures status { result.0 ≤ 5 }
+    ensures status { IsStatus result.0 }
 
     // Words that name no command.
     ensures usage { result.0 ≡ 1 → command_of (texts words.now.items) ≡ None }
@@ -46,19 +48,38 @@ pub fn run<S: Source, K: Sink>(
     // Inputs that are refused.
     ensures refused { result.0 ≡ 5 → IfSome (S.left input.old)
         (λ bytes. IsRefused (command_of (texts words.now.items)) bytes) }
+    ensures refused_line { result.0 ≡ 5 → IfSome (S.left input.old) (λ bytes.
+        WroteRefusal (K.taken output.old) (K.taken output.new) (command_of (texts words.now.items)) bytes) }
     ensures refused_only { IfSome (S.left input.old)
         (λ bytes. IsRefused (command_of (texts words.now.items)) bytes → (result.0 ≡ 5) ⊎ IsFault result.0) }
     ensures refused_to_end { result.0 ≡ 5 → IsOverLimit INPUT_LIMIT (S.left input.old)
         ⊎ IsAtEnd (S.left input.new) }
 
     // Inputs that are accepted.
-    ensures to_end { result.0 ≡ 0 → IsAtEnd (S.left input.new) }
+    ensures to_end { IsDone result.0 → IsAtEnd (S.left input.new) }
     ensures complete { IfSome (S.left input.old) (λ bytes. IsAccepted (command_of (texts words.now.items)) bytes
         → ¬ Rose (S.faults input.old) (S.faults input.new)
-        → (result.0 ≡ 0) ⊎ (result.0 ≡ 3) ⊎ (result.0 ≡ 4)) }
+        → IsDone result.0 ⊎ (result.0 ≡ 3) ⊎ (result.0 ≡ 4)) }
+
+    // `replay`: the text that was read is a schedule, and exactly its report was written.
     ensures replayed { command_of (texts words.now.items) ≡ Some Command.Replay → result.0 ≡ 0
         → ReadWhole (S.left input.old) (S.left input.new) (λ text. IsSomeAnd (schedule_of text)
         (λ schedule. Appends (K.taken output.old) (K.taken output.new) (report_for schedule))) }
+
+    // And the world that it reports is safe: its commits are a serial history, and each refusal
+    // names what stood in its way.
+    ensures safe { command_of (texts words.now.items) ≡ Some Command.Replay → result.0 ≡ 0
+        → ReadWhole (S.left input.old) (S.left input.new) (λ text. IsSomeAnd (schedule_of text)
+        (λ schedule. IsSafe schedule.plan (world_of schedule))) }
+
+    // `check`: the text that was read is a plan, and exactly the verdict on it was written.
+    ensures judged { result.0 ≡ 9 → command_of (texts words.now.items) ≡ Some Command.Check }
+    ensures checked { command_of (texts words.now.items) ≡ Some Command.Check → IsDone result.0
+        → ReadWhole (S.left input.old) (S.left input.new) (λ text. IsOkAnd (plan_of_text text)
+        (λ read. WroteVerdict (K.taken output.old) (K.taken output.new) result.0 read.0 read.1.pair)) }
+    ensures optimal { command_of (texts words.now.items) ≡ Some Command.Check → result.0 ≡ 0
+        → ReadWhole (S.left input.old) (S.left input.new) (λ text. IsOkAnd (plan_of_text text)
+        (λ read. WroteOptimal (K.taken output.old) (K.taken output.new) read.0 read.1.pair)) }
 {
     run_whole(alloc, words, input, output)
 }
@@ -115,10 +136,11 @@ fn answered(answer: Result<Answer, AllocError>) -> Ending
 
 /// The answer of a command to its whole input.
 fn answer(alloc: Global, command: Command, input: &[u8]) -> Result<Answer, AllocError>
-    ensures { IfOk result (λ answer. answer ≡ answer_to command input.now) }
+    ensures { IfOk result (λ answer. IsAnswer command input.now answer) }
 {
     match command {
         Command::Replay => replay::answer(alloc, input),
+        Command::Check => check::answer(alloc, input),
     }
 }
 

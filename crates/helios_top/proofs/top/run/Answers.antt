@@ -1,5 +1,5 @@
 -- Each clause follows from the strong one.
-use Rattle.helios_top.proofs.Runs.{complete, one_line, printed_to_end, read_cause, refused_cause, refused_only, refused_to_end, replayed, status_small, usage_cause, usage_only, write_cause, write_prefix}
+use Rattle.helios_top.proofs.Runs.{checked, complete, done_to_end, judged_cause, one_line, optimal, read_cause, refusal_line, refused_cause, refused_only, refused_to_end, replayed, safe, status_small, usage_cause, usage_only, write_cause, write_prefix}
 use Rattle.helios_top.proofs.top.run.Goals as goal
 
 pub returns-clause-status : goal.returns-clause-status
@@ -26,6 +26,9 @@ returns-clause-one_line g c = one_line c.run_whole.ensures.ends
 pub returns-clause-refused : goal.returns-clause-refused
 returns-clause-refused g c = refused_cause c.run_whole.ensures.ends
 
+pub returns-clause-refused_line : goal.returns-clause-refused_line
+returns-clause-refused_line g c = refusal_line c.run_whole.ensures.ends
+
 pub returns-clause-refused_only : goal.returns-clause-refused_only
 returns-clause-refused_only g c = refused_only c.run_whole.ensures.ends
 
@@ -33,10 +36,22 @@ pub returns-clause-refused_to_end : goal.returns-clause-refused_to_end
 returns-clause-refused_to_end g c = refused_to_end c.run_whole.ensures.ends
 
 pub returns-clause-to_end : goal.returns-clause-to_end
-returns-clause-to_end g c = printed_to_end c.run_whole.ensures.ends
+returns-clause-to_end g c = done_to_end c.run_whole.ensures.ends
 
 pub returns-clause-complete : goal.returns-clause-complete
 returns-clause-complete g c = complete c.run_whole.ensures.ends
 
 pub returns-clause-replayed : goal.returns-clause-replayed
 returns-clause-replayed g c = replayed c.run_whole.ensures.ends
+
+pub returns-clause-judged : goal.returns-clause-judged
+returns-clause-judged g c = judged_cause c.run_whole.ensures.ends
+
+pub returns-clause-checked : goal.returns-clause-checked
+returns-clause-checked g c = checked c.run_whole.ensures.ends
+
+pub returns-clause-optimal : goal.returns-clause-optimal
+returns-clause-optimal g c = optimal c.run_whole.ensures.ends
+
+pub returns-clause-safe : goal.returns-clause-safe
+returns-clause-safe g c = safe c.run_whole.ensures.ends

@@ -1,0 +1,222 @@
+-- What a text says as a schedule can be replayed.
+use Rattle.std.proofs.Common.{◌≡◌, ℕ, ◌<◌, ◌≤◌, ◌&&◌, Bool, true, false, List, [], ◌∷◌, ◌==◌, length, nat_lt, nat_le, Option, Some, None, option_map, option_and_then, All, IsTrue, if◌then◌else◌, refl, sym, ap, subst, arith, codes}
+use Rattle.std.proofs.lemmas.Bool.{and_parts, leb-true}
+use Rattle.std.proofs.lemmas.List.Elements.{All-cons, All-nil}
+use Rattle.std.specs.List.{before_first, after_first}
+use Rattle.std.specs.Str.{bytes_eq}
+use Rattle.serde_json.specs.Data.{Data, Items, item, no_items}
+use Rattle.serde_json.specs.Find.{as_array, as_str, get}
+use Rattle.helios_model.specs.declared.ids.TxnId.{TxnId}
+use Rattle.helios_model.specs.declared.ids.Version.{Version}
+use Rattle.helios_model.specs.declared.ids.Version.TheVariants.{Initial, Of}
+use Rattle.helios_model.specs.declared.items.PutItem.{PutItem}
+use Rattle.helios_model.specs.Distinct.{all_differ}
+use Rattle.helios_model.specs.Limits.{last_time, most_items, most_sites}
+use Rattle.helios_model.specs.Setting.{Setting}
+use Rattle.schedule_replay.specs.declared.inputs.Planned.{Planned}
+use Rattle.schedule_replay.specs.declared.inputs.Planned.TheVariants.{Request}
+use Rattle.schedule_replay.specs.declared.reads.PlannedRead.{PlannedRead}
+use Rattle.schedule_replay.specs.declared.reads.PlannedVersion.TheVariants.{At}
+use Rattle.schedule_replay.specs.declared.schedule.Schedule.{Schedule}
+use Rattle.schedule_replay.specs.declared.steps.Step.{Step}
+use Rattle.schedule_replay.specs.declared.steps.Step.TheVariants.{Batch}
+use Rattle.schedule_replay.specs.Replayable.{IsGiven, IsPlannedBatch, IsPlannedInput, IsPlannedRequest, IsPlannedStep, IsReplayable, IsVersionText, most_steps}
+use Rattle.helios_top.specs.Json.{only}
+use Rattle.helios_top.specs.Reading.{is_one_site_plan, one_site, plan_at, schedule_at, schedule_of}
+use Rattle.helios_top.specs.Spelling.{id_from, id_of, is_at, key_at, number_of, stored_at, version_at, version_of}
+use Rattle.json_text.specs.Arrays.{each_of, whole_number}
+use Rattle.json_text.specs.Text.{json_of}
+use Rattle.helios_top.specs.Stepping.{asked_at, batch_at, is_other_input, is_other_step, put_at, puts_of, read_at, read_of, reads_of, request_at, site_of, step_at, steps_of, within_puts, within_reads, within_steps}
+use Rattle.helios_top.proofs.OneSite.{one_site_is_accepted}
+
+-- a value that comes of another that is there
+bind_some : {A B : Type 0} (o : Option A) (f : A → Option B) (y : B) → option_and_then f o ≡ Some y → (x : A) × ((o ≡ Some x) × (f x ≡ Some y))
+bind_some None f y e = cc
+bind_some (Some x) f y e = (x, (refl, e))
+
+map_some : {A B : Type 0} (o : Option A) (f : A → B) (y : B) → option_map f o ≡ Some y → (x : A) × ((o ≡ Some x) × (f x ≡ y))
+map_some None f y e = cc
+map_some (Some x) f y e = (x, (refl, cc))
+
+some_injective : {A : Type 0} (x y : A) → Some x ≡ Some y → x ≡ y
+some_injective x y e = cc
+
+-- a value that comes only where a test holds
+guard_some : {A : Type 0} (b : Bool) (x y : A) → (if b then Some x else None) ≡ Some y → (b ≡ true) × (x ≡ y)
+guard_some true x y e = (refl, cc)
+guard_some false x y e = cc
+
+unless_some : {A : Type 0} (b : Bool) (o : Option A) (y : A) → (if b then None else o) ≡ Some y → o ≡ Some y
+unless_some true o y e = cc
+unless_some false o y e = e
+
+-- what holds of all that the items of an array may say holds of each that they say
+each_of_all : {T : Type 0} (said : Data → Option T) (P : T → Type 0) → ((d : Data) (x : T) → said d ≡ Some x → P x)
+    → (items : Items) (xs : List T) → each_of said items ≡ Some xs → All P xs
+each_of_all said P each no_items xs e = let same : [] ≡ xs = cc in subst (All P) same (All-nil P)
+each_of_all said P each (item d ds) xs e =
+    let first = bind_some (said d) (λ x. option_map (λ rest. x ∷ rest) (each_of said ds)) xs e in
+    let rest = map_some (each_of said ds) (λ rest. first.0 ∷ rest) xs first.1.1 in
+    subst (All P) rest.1.1 (All-cons P first.0 rest.0 (each d first.0 first.1.0) (each_of_all said P each ds rest.0 rest.1.0))
+
+-- ---- versions
+
+id_from_limits : (site time : ℕ) (id : TxnId) → id_from site time ≡ Some id → (1 ≤ id.time) × (id.time ≤ last_time)
+unfolding id_from
+id_from_limits site time id e =
+    let g = guard_some (nat_lt site most_sites && nat_le 1 time && nat_le time last_time) (record { site = site; time = time }) id e in
+    let outer = and_parts (nat_lt site most_sites && nat_le 1 time) (nat_le time last_time) g.0 in
+    let inner = and_parts (nat_lt site most_sites) (nat_le 1 time) outer.0 in
+    let is : time ≡ id.time = ap (λ (i : TxnId). i.time) g.1 in
+    (subst (λ (t : ℕ). 1 ≤ t) is (leb-true 1 time inner.1), subst (λ (t : ℕ). t ≤ last_time) is (leb-true time last_time outer.1))
+
+id_of_limits : (text : List ℕ) (id : TxnId) → id_of text ≡ Some id → (1 ≤ id.time) × (id.time ≤ last_time)
+unfolding id_of
+id_of_limits text id e =
+    let site = bind_some (number_of (before_first is_at text)) (λ (s : ℕ). option_and_then (λ (t : ℕ). id_from s t) (number_of (after_first is_at text))) id e in
+    let time = bind_some (number_of (after_first is_at text)) (λ (t : ℕ). id_from site.0 t) id site.1.1 in
+    id_from_limits site.0 time.0 id time.1.1
+
+initial_or_id : (b : Bool) (found : Option TxnId) (v : Version) → ((id : TxnId) → found ≡ Some id → (1 ≤ id.time) × (id.time ≤ last_time))
+    → (if b then Some Initial else option_map Of found) ≡ Some v → IsVersionText v
+initial_or_id true found v limits e = let same : Initial ≡ v = cc in subst IsVersionText same tt
+initial_or_id false found v limits e = let m = map_some found Of v e in subst IsVersionText m.1.1 (limits m.0 m.1.0)
+
+version_limits : (d : Data) (v : Version) → version_at d ≡ Some v → IsVersionText v
+unfolding version_at version_of
+version_limits d v e = let text = bind_some (as_str d) version_of v e in initial_or_id (bytes_eq text.0 (codes "initial")) (id_of text.0) v (λ id. id_of_limits text.0 id) text.1.1
+
+-- ---- requests
+
+read_of_given : (items : Items) (r : PlannedRead) → read_of items ≡ Some r → IsGiven r.version
+read_of_given no_items r e = cc
+read_of_given (item key no_items) r e = cc
+read_of_given (item key (item version no_items)) r e =
+    let k = bind_some (key_at key) (λ (key : List ℕ). option_map (λ (v : Version). record { key = key; version = At v }) (version_at version)) r e in
+    let v = map_some (version_at version) (λ (v : Version). record { key = k.0; version = At v }) r k.1.1 in
+    subst (λ (read : PlannedRead). IsGiven read.version) v.1.1 (version_limits version v.0 v.1.0)
+read_of_given (item key (item version (item other ds))) r e = cc
+
+read_given : (d : Data) (r : PlannedRead) → read_at d ≡ Some r → IsGiven r.version
+unfolding read_at
+read_given d r e = let items = bind_some (as_array d) read_of r e in read_of_given items.0 r items.1.1
+
+pub record AreReads (reads : List PlannedRead) : Type 0 where
+  pub few : length reads ≤ most_items
+  pub differ : IsTrue (all_differ (λ r. r.key) reads)
+  pub given : All (λ r. IsGiven r.version) reads
+
+reads_limits : (items : Items) (reads : List PlannedRead) → reads_of items ≡ Some reads → AreReads reads
+unfolding reads_of within_reads
+reads_limits items reads e =
+    let found = bind_some (each_of read_at items) within_reads reads e in
+    let within = guard_some (nat_le (length found.0) most_items && all_differ (λ r. r.key) found.0) found.0 reads found.1.1 in
+    let parts = and_parts (nat_le (length found.0) most_items) (all_differ (λ r. r.key) found.0) within.0 in
+    subst AreReads within.1 (record {
+      few = leb-true (length found.0) most_items parts.0;
+      differ = parts.1;
+      given = each_of_all read_at (λ r. IsGiven r.version) read_given items found.0 found.1.0;
+    })
+
+pub record ArePuts (puts : List PutItem) : Type 0 where
+  pub few : length puts ≤ most_items
+  pub differ : IsTrue (all_differ (λ p. p.key) puts)
+
+puts_limits : (items : Items) (puts : List PutItem) → puts_of items ≡ Some puts → ArePuts puts
+unfolding puts_of within_puts
+puts_limits items puts e =
+    let found = bind_some (each_of put_at items) within_puts puts e in
+    let within = guard_some (nat_le (length found.0) most_items && all_differ (λ p. p.key) found.0) found.0 puts found.1.1 in
+    let parts = and_parts (nat_le (length found.0) most_items) (all_differ (λ p. p.key) found.0) within.0 in
+    subst ArePuts within.1 (record { few = leb-true (length found.0) most_items parts.0; differ = parts.1 })
+
+asked_limits : (d : Data) (p : Planned) → asked_at d ≡ Some p → IsPlannedInput p
+unfolding asked_at
+asked_limits d p e =
+    let said_reads = option_and_then reads_of (option_and_then as_array (get (codes "reads") d)) in
+    let said_puts = option_and_then puts_of (option_and_then as_array (get (codes "writes") d)) in
+    let time = bind_some (option_and_then whole_number (get (codes "at") d))
+    (λ (t : ℕ). option_and_then (λ (rs : List PlannedRead). option_and_then (λ (ps : List PutItem). Some (Request t rs ps)) said_puts) said_reads) p e in
+    let reads = bind_some said_reads (λ (rs : List PlannedRead). option_and_then (λ (ps : List PutItem). Some (Request time.0 rs ps)) said_puts) p time.1.1 in
+    let puts = bind_some said_puts (λ (ps : List PutItem). Some (Request time.0 reads.0 ps)) p reads.1.1 in
+    let in_reads = bind_some (option_and_then as_array (get (codes "reads") d)) reads_of reads.0 reads.1.0 in
+    let in_puts = bind_some (option_and_then as_array (get (codes "writes") d)) puts_of puts.0 puts.1.0 in
+    let of_reads = reads_limits in_reads.0 reads.0 in_reads.1.1 in
+    let of_puts = puts_limits in_puts.0 puts.0 in_puts.1.1 in
+    let same : Request time.0 reads.0 puts.0 ≡ p = some_injective (Request time.0 reads.0 puts.0) p puts.1.1 in
+    subst IsPlannedInput same (record {
+      few_reads = of_reads.few;
+      few_puts = of_puts.few;
+      reads_differ = of_reads.differ;
+      puts_differ = of_puts.differ;
+      given = of_reads.given;
+    })
+
+request_limits : (d : Data) (p : Planned) → request_at d ≡ Some p → IsPlannedInput p
+unfolding request_at
+request_limits d p e = asked_limits d p (unless_some (is_other_input d) _ p e)
+
+-- ---- steps
+
+site_is_first : (n site : ℕ) → site_of n ≡ Some site → 0 ≡ site
+unfolding site_of
+site_is_first n site e = (guard_some (n == 0) 0 site e).1
+
+batch_limits : (d : Data) (s : Step) → batch_at d ≡ Some s → IsPlannedStep one_site s
+unfolding batch_at
+batch_limits d s e =
+    let said_request = option_and_then request_at (only (get (codes "inputs") d)) in
+    let site = bind_some (option_and_then site_of (option_and_then whole_number (get (codes "site") d)))
+    (λ (n : ℕ). option_and_then (λ (p : Planned). Some (Batch n (p ∷ []))) said_request) s e in
+    let request = bind_some said_request (λ (p : Planned). Some (Batch site.0 (p ∷ []))) s site.1.1 in
+    let number = bind_some (option_and_then whole_number (get (codes "site") d)) site_of site.0 site.1.0 in
+    let asked = bind_some (only (get (codes "inputs") d)) request_at request.0 request.1.0 in
+    let first : 0 ≡ site.0 = site_is_first number.0 site.0 number.1.1 in
+    let same : Batch site.0 (request.0 ∷ []) ≡ s = some_injective (Batch site.0 (request.0 ∷ [])) s request.1.1 in
+    subst (IsPlannedStep one_site) same (record {
+      here = omega arith;
+      one = refl;
+      each = All-cons IsPlannedInput request.0 [] (request_limits asked.0 request.0 asked.1.1) (All-nil IsPlannedInput);
+    })
+
+step_limits : (d : Data) (s : Step) → step_at d ≡ Some s → IsPlannedStep one_site s
+unfolding step_at
+step_limits d s e = batch_limits d s (unless_some (is_other_step d) _ s e)
+
+pub record AreSteps (steps : List Step) : Type 0 where
+  pub few : length steps ≤ most_steps
+  pub each : All (IsPlannedStep one_site) steps
+
+steps_limits : (items : Items) (steps : List Step) → steps_of items ≡ Some steps → AreSteps steps
+unfolding steps_of within_steps
+steps_limits items steps e =
+    let found = bind_some (each_of step_at items) within_steps steps e in
+    let within = guard_some (nat_le (length found.0) most_steps) found.0 steps found.1.1 in
+    subst AreSteps within.1 (record {
+      few = leb-true (length found.0) most_steps within.0;
+      each = each_of_all step_at (IsPlannedStep one_site) step_limits items found.0 found.1.0;
+    })
+
+plan_is_one_site : (d : Data) (plan : Setting) → plan_at d ≡ Some plan → one_site ≡ plan
+unfolding plan_at
+plan_is_one_site d plan e = (guard_some (is_one_site_plan d) one_site plan e).1
+
+schedule_limits : (d : Data) (s : Schedule) → schedule_at d ≡ Some s → IsReplayable s.plan s.steps
+unfolding schedule_at
+schedule_limits d s e =
+    let said_steps = option_and_then steps_of (option_and_then as_array (get (codes "steps") d)) in
+    let plan = bind_some (option_and_then plan_at (get (codes "plan") d))
+    (λ (p : Setting). option_and_then (λ (ss : List Step). Some (record { plan = p; steps = ss })) said_steps) s e in
+    let steps = bind_some said_steps (λ (ss : List Step). Some (record { plan = plan.0; steps = ss })) s plan.1.1 in
+    let in_plan = bind_some (get (codes "plan") d) plan_at plan.0 plan.1.0 in
+    let in_steps = bind_some (option_and_then as_array (get (codes "steps") d)) steps_of steps.0 steps.1.0 in
+    let is : one_site ≡ plan.0 = plan_is_one_site in_plan.0 plan.0 in_plan.1.1 in
+    let limits = steps_limits in_steps.0 steps.0 in_steps.1.1 in
+    let made : Schedule = record { plan = plan.0; steps = steps.0 } in
+    let same : made ≡ s = some_injective made s steps.1.1 in
+    let at_one_site : IsReplayable one_site steps.0 = record { accepted = one_site_is_accepted; few = limits.few; each = limits.each } in
+    subst (λ (schedule : Schedule). IsReplayable schedule.plan schedule.steps) same (subst (λ (p : Setting). IsReplayable p steps.0) is at_one_site)
+
+pub schedule_is_replayable : (text : List ℕ) (s : Schedule) → schedule_of text ≡ Some s → IsReplayable s.plan s.steps
+unfolding schedule_of
+schedule_is_replayable text s e = let d = bind_some (json_of text) schedule_at s e in schedule_limits d.0 s d.1.1

@@ -1,0 +1,5 @@
+use Rattle.std.proofs.Common.{length}
+use Rattle.helios_top.proofs.steps.+puts_differ.Given as goal
+
+abbrev pub decreases-puts_differ : goal.decreases-puts_differ
+decreases-puts_differ l = length l.puts.now
