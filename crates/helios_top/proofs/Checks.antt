@@ -7,7 +7,6 @@ use Rattle.helios_model.specs.Setting.{Setting}
 use Rattle.plan_certificate.specs.declared.verdict.Verdict.{Verdict}
 use Rattle.plan_certificate.specs.declared.verdict.Verdict.TheVariants as verdicts
 use Rattle.plan_certificate.specs.Says.{Says}
-use Rattle.helios_top.specs.declared.ending.Answer.{Answer}
 use Rattle.helios_top.specs.declared.ending.Answer.TheVariants.{Judged}
 use Rattle.helios_top.specs.Answer.{IsCheckAnswer, IsProved}
 

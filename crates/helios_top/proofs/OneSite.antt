@@ -1,5 +1,5 @@
 -- The plan of one site keeps the limits of a plan, and is accepted.
-use Rattle.std.proofs.Common.{◌≡◌, ℕ, ◌<◌, ◌≤◌, ◌+◌, ◌*◌, List, [], ◌∷◌, length, get_or, codes, refl, arith, IsTrue}
+use Rattle.std.proofs.Common.{◌≡◌, ℕ, ◌<◌, ◌≤◌, [], ◌∷◌, refl, arith}
 use Rattle.std.proofs.lemmas.List.Elements.{All-cons, All-nil}
 use Rattle.helios_model.specs.Limits.{IsName, IsNameByte, longest_trip, greatest_latency}
 use Rattle.helios_model.specs.Setting.{IsPlan, IsMatrix, IsAccepted, trip_at}

@@ -1,5 +1,5 @@
 -- What a text says as a schedule can be replayed.
-use Rattle.std.proofs.Common.{◌≡◌, ℕ, ◌<◌, ◌≤◌, ◌&&◌, Bool, true, false, List, [], ◌∷◌, ◌==◌, length, nat_lt, nat_le, Option, Some, None, option_map, option_and_then, All, IsTrue, if◌then◌else◌, refl, sym, ap, subst, arith, codes}
+use Rattle.std.proofs.Common.{◌≡◌, ℕ, ◌≤◌, ◌&&◌, Bool, true, false, List, [], ◌∷◌, ◌==◌, length, nat_lt, nat_le, Option, Some, None, option_map, option_and_then, All, IsTrue, if◌then◌else◌, refl, ap, subst, arith, codes}
 use Rattle.std.proofs.lemmas.Bool.{and_parts, leb-true}
 use Rattle.std.proofs.lemmas.List.Elements.{All-cons, All-nil}
 use Rattle.std.specs.List.{before_first, after_first}
@@ -20,10 +20,10 @@ use Rattle.schedule_replay.specs.declared.reads.PlannedVersion.TheVariants.{At}
 use Rattle.schedule_replay.specs.declared.schedule.Schedule.{Schedule}
 use Rattle.schedule_replay.specs.declared.steps.Step.{Step}
 use Rattle.schedule_replay.specs.declared.steps.Step.TheVariants.{Batch}
-use Rattle.schedule_replay.specs.Replayable.{IsGiven, IsPlannedBatch, IsPlannedInput, IsPlannedRequest, IsPlannedStep, IsReplayable, IsVersionText, most_steps}
+use Rattle.schedule_replay.specs.Replayable.{IsGiven, IsPlannedInput, IsPlannedStep, IsReplayable, IsVersionText, most_steps}
 use Rattle.helios_top.specs.Json.{only}
 use Rattle.helios_top.specs.Reading.{is_one_site_plan, one_site, plan_at, schedule_at, schedule_of}
-use Rattle.helios_top.specs.Spelling.{id_from, id_of, is_at, key_at, number_of, stored_at, version_at, version_of}
+use Rattle.helios_top.specs.Spelling.{id_from, id_of, is_at, key_at, number_of, version_at, version_of}
 use Rattle.json_text.specs.Arrays.{each_of, whole_number}
 use Rattle.json_text.specs.Text.{json_of}
 use Rattle.helios_top.specs.Stepping.{asked_at, batch_at, is_other_input, is_other_step, put_at, puts_of, read_at, read_of, reads_of, request_at, site_of, step_at, steps_of, within_puts, within_reads, within_steps}

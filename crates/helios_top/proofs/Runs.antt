@@ -1,31 +1,28 @@
 -- What the strong clause of a run, that some ending may come and was written, says of each status.
-use Rattle.std.proofs.Common.{◌≡◌, ◌≢◌, ℕ, ◌<◌, ◌≤◌, ◌⊎◌, inl, inr, List, [], ◌++◌, Option, Some, None, Result, Ok, Err, IsSome, IsOk, IsErr, IsOkAnd, IfSome, IsSomeAnd, length, codes, decimal, sum, refl, sym, ◌∙◌, ap, subst, arith, append-nil}
-use Rattle.std.specs.Io.KnownBytes.{Appends, Consumes, IsAtEnd}
+use Rattle.std.proofs.Common.{◌≡◌, ◌≢◌, ℕ, ◌≤◌, ◌⊎◌, inl, inr, List, ◌++◌, Option, Some, None, Result, Ok, Err, IsSome, IsOk, IsErr, IsOkAnd, IfSome, IsSomeAnd, length, codes, decimal, refl, sym, ◌∙◌, ap, subst, arith, append-nil}
+use Rattle.std.specs.Io.KnownBytes.{Appends, IsAtEnd}
 use Rattle.commit_offsets.specs.declared.refusal.PlanRefusal.{PlanRefusal}
 use Rattle.commit_offsets.specs.Reading.{plan_of_text}
-use Rattle.helios_model.specs.Certificate.{IsCertificate}
 use Rattle.helios_model.specs.declared.plan.Certificate.{Certificate}
 use Rattle.helios_model.specs.Laws.Safe.{IsSafe}
-use Rattle.helios_model.specs.Optimal.{IsOptimal}
-use Rattle.helios_model.specs.Setting.{Setting, IsAccepted as IsAcceptedPlan}
+use Rattle.helios_model.specs.Setting.{Setting}
 use Rattle.outside_io.specs.Causes.{Rose}
-use Rattle.outside_io.specs.Whole.{AppendsPrefix, IsOverLimit, IsWholeInput}
+use Rattle.outside_io.specs.Whole.{AppendsPrefix, IsOverLimit, IsWholeInput, TakesAtMost}
+use Rattle.outside_io.proofs.Reading.{takes_none}
 use Rattle.plan_certificate.specs.declared.verdict.Verdict.{Verdict}
 use Rattle.plan_certificate.specs.declared.verdict.Verdict.TheVariants as verdicts
 use Rattle.schedule_replay.specs.declared.schedule.Schedule.{Schedule}
-use Rattle.helios_top.specs.declared.TheConstants.{INPUT_LIMIT}
 use Rattle.helios_top.specs.declared.words.Command.{Command}
 use Rattle.helios_top.specs.declared.words.Command.TheVariants.{Check, Replay}
 use Rattle.helios_top.specs.declared.ending.Refusal.{Refusal}
-use Rattle.helios_top.specs.declared.ending.Refusal.TheVariants.{OfPlan, Unbuilt}
 use Rattle.helios_top.specs.declared.ending.Answer.{Answer}
 use Rattle.helios_top.specs.declared.ending.Answer.TheVariants.{Judged, Printed, Refused}
 use Rattle.helios_top.specs.declared.ending.Ending.{Ending}
 use Rattle.helios_top.specs.declared.ending.Ending.TheVariants.{Usage, ReadFault, NoMemory, TooLarge, Answered}
 use Rattle.helios_top.specs.Answer.{IsAnswer, IsCheckAnswer, IsReplayAnswer, IsVerdict, report_for, world_of}
-use Rattle.helios_top.specs.Ending.{answer_status, answer_text, line, refusal_text, status_of, text_of, verdict_status, verdict_text}
+use Rattle.helios_top.specs.Ending.{answer_status, answer_text, line, status_of, text_of, verdict_status, verdict_text}
 use Rattle.helios_top.specs.Reading.{schedule_of}
-use Rattle.helios_top.specs.Run.{Answers, Ends, IsAccepted, IsDone, IsFault, IsOfForm, IsOtherForm, IsRefused, IsStatus, IsTooLarge, MayEnd, ReadWhole, Wrote, WroteOneLine, WroteOptimal, WroteRefusal, WroteVerdict}
+use Rattle.helios_top.specs.Run.{most_input_bytes, Answers, Ends, IsAccepted, IsDone, IsFault, IsOfForm, IsOtherForm, IsRefused, IsStatus, IsTooLarge, MayEnd, ReadWhole, WroteOneLine, WroteOptimal, WroteRefusal, WroteVerdict}
 
 -- ---- which ending has each status
 
@@ -235,8 +232,8 @@ too_large_refused : (named : Option Command) (bytes : List ℕ) → IsSome named
 too_large_refused None bytes some large = absurd (no_command None refl some)
 too_large_refused (Some command) bytes some large = inl large
 
-over_limit_told : (left : Option (List ℕ)) (bytes : List ℕ) → left ≡ Some bytes → IsOverLimit INPUT_LIMIT left → IsTooLarge bytes
-over_limit_told left bytes told over = let h = subst (IsOverLimit INPUT_LIMIT) told over in h
+over_limit_told : (left : Option (List ℕ)) (bytes : List ℕ) → left ≡ Some bytes → IsOverLimit most_input_bytes left → IsTooLarge bytes
+over_limit_told left bytes told over = let h = subst (IsOverLimit most_input_bytes) told over in h
 
 -- bytes that were told and read whole are those that were told
 whole_is_told : (bytes read : List ℕ) (left' : Option (List ℕ)) → IsWholeInput (Some bytes) left' read → read ≡ bytes
@@ -271,7 +268,7 @@ done_told : (named : Option Command) (left left' : Option (List ℕ)) (bytes : L
 done_told named left left' bytes answer told h done =
     let same : h.bytes ≡ bytes = answers_told named left left' bytes answer told h in
     let form : IsOfForm h.command bytes = subst (IsOfForm h.command) same (accepted_form h.command h.bytes answer h.is_answer done) in
-    let small : length bytes ≤ INPUT_LIMIT = subst (λ (l : List ℕ). length l ≤ INPUT_LIMIT) same h.fits in
+    let small : length bytes ≤ most_input_bytes = subst (λ (l : List ℕ). length l ≤ most_input_bytes) same h.fits in
     subst (λ (n : Option Command). IsAccepted n bytes) (sym h.is_named) (small, form)
 
 -- no input is accepted and refused
@@ -287,7 +284,7 @@ wrote_too_large : (taken taken' : Option (List ℕ)) (named : Option Command) (b
 wrote_too_large taken taken' None bytes some large wrote = absurd (no_command None refl some)
 wrote_too_large taken taken' (Some command) bytes some large wrote = (λ again. wrote, λ small. absurd (omega (arith, large, small)))
 
-wrote_answer : (taken taken' : Option (List ℕ)) (command : Command) (bytes : List ℕ) (refusal : Refusal) → length bytes ≤ INPUT_LIMIT → IsAnswer command bytes (Refused refusal)
+wrote_answer : (taken taken' : Option (List ℕ)) (command : Command) (bytes : List ℕ) (refusal : Refusal) → length bytes ≤ most_input_bytes → IsAnswer command bytes (Refused refusal)
     → Appends taken taken' (answer_text (Refused refusal)) → WroteRefusal taken taken' (Some command) bytes
 wrote_answer taken taken' command bytes refusal small is wrote = (λ large. absurd (omega (arith, large, small)), λ again. (refusal, (is, wrote)))
 
@@ -364,8 +361,8 @@ module _ {named : Option Command} {left left' : Option (List ℕ)} {reads reads'
     read_fault = λ e. let d = due h (λ three. omega arith) in subst (Appends taken taken') (ap text_of (is_read_fault h.ending (sym d.0 ∙ e)) ∙ read_fault_text) d.1;
     no_memory = λ e. let d = due h (λ three. omega arith) in subst (Appends taken taken') (ap text_of (is_no_memory h.ending (sym d.0 ∙ e)) ∙ no_memory_text) d.1;
     refused = λ e. let d = due h (λ three. omega arith) in elim (is_refused h.ending (sym d.0 ∙ e)) [
-      | inl is ↦ (codes "too-large", subst (Appends taken taken') (ap text_of is ∙ too_large_text) d.1)
-      | inr is ↦ (refusal_text is.0, subst (Appends taken taken') (ap text_of is.1 ∙ answered_text (Refused is.0)) d.1)
+      | inl is ↦ (TooLarge, refl, subst (Appends taken taken') (ap text_of is) d.1)
+      | inr is ↦ (Answered (Refused is.0), refl, subst (Appends taken taken') (ap text_of is.1) d.1)
     ];
     judged = λ e. let d = due h (λ three. omega arith) in
         let at : status_of h.ending ≡ 9 = sym d.0 ∙ e in
@@ -395,10 +392,10 @@ module _ {named : Option Command} {left left' : Option (List ℕ)} {reads reads'
   ])
 
   refusal_may : (h : Ends named left left' reads reads' taken taken' writes writes' status) → status ≡ 5
-      → (IsSome named × IsOverLimit INPUT_LIMIT left × Appends taken taken' (line (codes "refused too-large")))
+      → (IsSome named × IsOverLimit most_input_bytes left × Appends taken taken' (line (codes "refused too-large")))
       ⊎ ((refusal : Refusal) × (Answers named left left' (Refused refusal) × Appends taken taken' (answer_text (Refused refusal))))
   refusal_may h e = let d = due h (λ three. omega arith) in elim (is_refused h.ending (sym d.0 ∙ e)) [
-    | inl is ↦ let may : IsSome named × IsOverLimit INPUT_LIMIT left = subst (MayEnd named left left' reads reads') is h.may_end in
+    | inl is ↦ let may : IsSome named × IsOverLimit most_input_bytes left = subst (MayEnd named left left' reads reads') is h.may_end in
         inl (may.0, may.1, subst (Appends taken taken') (ap text_of is ∙ too_large_text) d.1)
     | inr is ↦ inr (
       is.0,
@@ -421,7 +418,7 @@ module _ {named : Option Command} {left left' : Option (List ℕ)} {reads reads'
     | inr may ↦ wrote_refused taken taken' named left left' bytes may.0 told may.1.0 may.1.1
   ])
 
-  pub refused_to_end : Ends named left left' reads reads' taken taken' writes writes' status → status ≡ 5 → IsOverLimit INPUT_LIMIT left ⊎ IsAtEnd left'
+  pub refused_to_end : Ends named left left' reads reads' taken taken' writes writes' status → status ≡ 5 → IsOverLimit most_input_bytes left ⊎ IsAtEnd left'
   refused_to_end h e = elim (refusal_may h e) [ inl large ↦ inl large.1 | inr may ↦ inr may.1.0.is_whole.ended ]
 
   answered_may : (h : Ends named left left' reads reads' taken taken' writes writes' status) → IsDone status
@@ -476,3 +473,7 @@ module _ {named : Option Command} {left left' : Option (List ℕ)} {reads reads'
   optimal h check zero =
       let r = checked h check (inl zero) in
       record { bytes = r.bytes; is_whole = r.is_whole; fits = r.fits; holds = read_optimal taken taken' status (plan_of_text r.bytes) zero r.holds }
+
+-- nothing of an input that stays as it was is taken
+pub takes_nothing : (left : Option (List ℕ)) (most : ℕ) → TakesAtMost most left left
+takes_nothing left most = takes_none left most

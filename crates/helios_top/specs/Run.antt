@@ -1,14 +1,13 @@
 -- When a run may end in each way, and what it writes.
-use Rattle.std.specs.Prelude.{◌≡◌, ℕ, ◌<◌, ◌≤◌, ◌⊎◌, List, ◌++◌, Option, Some, None, Result, IsSome, IsOk, IsErr, length, codes, decimal, sum}
+use Rattle.std.specs.Prelude.{◌≡◌, ℕ, ◌<◌, ◌≤◌, ◌⊎◌, List, ◌++◌, Option, Some, None, IsSome, IsOk, IsErr, length, codes, decimal, sum}
 use Rattle.std.specs.Io.KnownBytes.{Appends}
 use Rattle.commit_offsets.specs.Reading.{plan_of_text}
 use Rattle.helios_model.specs.Certificate.{IsCertificate}
 use Rattle.helios_model.specs.Optimal.{IsOptimal}
 use Rattle.helios_model.specs.Setting.{Setting, IsAccepted as IsAcceptedPlan}
 use Rattle.outside_io.specs.Causes.{Rose}
-use Rattle.outside_io.specs.Whole.{AppendsPrefix, IsOverLimit, IsWholeInput}
+use Rattle.outside_io.specs.Whole.{AppendsPrefix, IsOverLimit, IsWholeInput, TakesAtMost}
 use Rattle.plan_certificate.specs.declared.verdict.Verdict.{Verdict}
-use Rattle.helios_top.specs.declared.TheConstants.{INPUT_LIMIT}
 use Rattle.helios_top.specs.declared.words.Command.{Command}
 use Rattle.helios_top.specs.declared.words.Command.TheVariants.{Check, Replay}
 use Rattle.helios_top.specs.declared.ending.Refusal.{Refusal}
@@ -20,21 +19,25 @@ use Rattle.helios_top.specs.Answer.{IsAnswer, IsVerdict}
 use Rattle.helios_top.specs.Ending.{answer_text, line, status_of, text_of, verdict_status, verdict_text}
 use Rattle.helios_top.specs.Reading.{schedule_of}
 
+-- the most bytes that a command reads
+abbrev pub most_input_bytes : ℕ
+most_input_bytes = 16777216
+
 -- the words name a command, its input was read whole and to its end and is within the limit, and this is the answer to it
 pub record Answers (named : Option Command) (left left' : Option (List ℕ)) (answer : Answer) : Type 0 where
   pub command : Command
   pub bytes : List ℕ
   pub is_named : named ≡ Some command
   pub is_whole : IsWholeInput left left' bytes
-  pub fits : length bytes ≤ INPUT_LIMIT
+  pub fits : length bytes ≤ most_input_bytes
   pub is_answer : IsAnswer command bytes answer
 
 -- when a run may end so: `left` and `reads` are the bytes still to be read and the count of faults before it, `left'` and `reads'` after it
 abbrev pub MayEnd : Option Command → Option (List ℕ) → Option (List ℕ) → ℕ → ℕ → Ending → Type 0
 MayEnd named left left' reads reads' Usage = named ≡ None
-MayEnd named left left' reads reads' ReadFault = IsSome named × Rose reads reads'
+MayEnd named left left' reads reads' ReadFault = IsSome named × Rose reads reads' × TakesAtMost most_input_bytes left left'
 MayEnd named left left' reads reads' NoMemory = Unit {0}
-MayEnd named left left' reads reads' TooLarge = IsSome named × IsOverLimit INPUT_LIMIT left
+MayEnd named left left' reads reads' TooLarge = IsSome named × IsOverLimit most_input_bytes left
 MayEnd named left left' reads reads' (Answered answer) = Answers named left left' answer
 
 -- the text was written whole and the status is the one that is due, or a write failed, a prefix of it was written and the status is 3
@@ -60,14 +63,14 @@ pub record WroteOneLine (taken taken' : Option (List ℕ)) (status : ℕ) : Type
   pub usage : status ≡ 1 → Appends taken taken' (line (codes "usage: helios COMMAND [WORDS]"))
   pub read_fault : status ≡ 2 → Appends taken taken' (line (codes "fault read"))
   pub no_memory : status ≡ 4 → Appends taken taken' (line (codes "fault memory"))
-  pub refused : status ≡ 5 → (name : List ℕ) × Appends taken taken' (line (codes "refused " ++ name))
+  pub refused : status ≡ 5 → (ending : Ending) × (status_of ending ≡ 5) × Appends taken taken' (text_of ending)
   pub judged : status ≡ 9 → (verdict : Verdict) × Appends taken taken' (line (verdict_text verdict))
 
 -- the whole input was read, to its end, and is within the limit, and this holds of its bytes
 pub record ReadWhole (left left' : Option (List ℕ)) (Holds : List ℕ → Type 0) : Type 0 where
   pub bytes : List ℕ
   pub is_whole : IsWholeInput left left' bytes
-  pub fits : length bytes ≤ INPUT_LIMIT
+  pub fits : length bytes ≤ most_input_bytes
   pub holds : Holds bytes
 
 -- the status of a fault, which may come in the place of any other
@@ -76,7 +79,7 @@ IsFault status = (status ≡ 2) ⊎ (status ≡ 3) ⊎ (status ≡ 4)
 
 -- the input has more bytes than a command reads
 abbrev pub IsTooLarge : List ℕ → Type 0
-IsTooLarge bytes = INPUT_LIMIT < length bytes
+IsTooLarge bytes = most_input_bytes < length bytes
 
 -- the input is not of the form that the command accepts
 abbrev pub IsOtherForm : Command → List ℕ → Type 0
@@ -92,7 +95,7 @@ IsRefused (Some command) bytes = IsTooLarge bytes ⊎ IsOtherForm command bytes
 abbrev pub WroteRefusal : Option (List ℕ) → Option (List ℕ) → Option Command → List ℕ → Type 0
 WroteRefusal taken taken' None bytes = ⊥
 WroteRefusal taken taken' (Some command) bytes = (IsTooLarge bytes → Appends taken taken' (line (codes "refused too-large")))
-    × (length bytes ≤ INPUT_LIMIT → (refusal : Refusal) × (IsAnswer command bytes (Refused refusal) × Appends taken taken' (answer_text (Refused refusal))))
+    × (length bytes ≤ most_input_bytes → (refusal : Refusal) × (IsAnswer command bytes (Refused refusal) × Appends taken taken' (answer_text (Refused refusal))))
 
 -- the input is of the form that the command accepts
 abbrev pub IsOfForm : Command → List ℕ → Type 0
@@ -102,7 +105,7 @@ IsOfForm Check bytes = IsOk (plan_of_text bytes)
 -- the words name a command, which accepts this input
 abbrev pub IsAccepted : Option Command → List ℕ → Type 0
 IsAccepted None bytes = ⊥
-IsAccepted (Some command) bytes = (length bytes ≤ INPUT_LIMIT) × IsOfForm command bytes
+IsAccepted (Some command) bytes = (length bytes ≤ most_input_bytes) × IsOfForm command bytes
 
 -- the statuses of an answer to an input that is accepted
 abbrev pub IsDone : ℕ → Type 0

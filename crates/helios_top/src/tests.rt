@@ -1,6 +1,6 @@
 ghost use Rattle.std.specs.Prelude.{◌<◌};
 
-use crate::{INPUT_LIMIT, run};
+use crate::run;
 use outside_io::{MemSink, MemSource};
 use std::alloc::{AllocError, Global};
 use std::test::Fail;
@@ -315,7 +315,7 @@ fn refuses_bytes_that_are_no_text(rt: HostRuntime) -> Result<(), Fail> {
 
 #[test]
 fn reads_up_to_the_limit(rt: HostRuntime) -> Result<(), Fail> {
-    let mut input = vec![in rt.alloc(); b' '; INPUT_LIMIT - EMPTY.len()]?;
+    let mut input = vec![in rt.alloc(); b' '; 16_777_216 - EMPTY.len()]?;
     input.extend_from_slice(EMPTY.as_bytes())?;
     let mut longer = input.clone()?;
     longer.push(b' ')?;

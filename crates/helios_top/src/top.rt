@@ -1,14 +1,14 @@
-ghost use Rattle.std.specs.Prelude.{◌≡◌, ◌⊎◌, None, Some, IfOk, IfSome, IsOkAnd, IsSomeAnd, MatchResult};
+ghost use Rattle.std.specs.Prelude.{◌≡◌, ◌+◌, ◌≤◌, ◌⊎◌, None, Some, IfOk, IfSome, IsOkAnd, IsSomeAnd, MatchResult};
 ghost use Rattle.std.specs.Io.KnownBytes.{Appends, IsAtEnd};
 ghost use Rattle.commit_offsets.specs.Reading.{plan_of_text};
 ghost use Rattle.helios_model.specs.Laws.Safe.{IsSafe};
-ghost use Rattle.outside_io.specs.Causes.{Rose};
-ghost use Rattle.outside_io.specs.Whole.{AppendsPrefix, IsOverLimit};
+ghost use Rattle.outside_io.specs.Causes.{Rose, StaysTold};
+ghost use Rattle.outside_io.specs.Whole.{AppendsPrefix, IsOverLimit, TakesAtMost};
 ghost use Rattle.helios_top.specs.declared.ending.Ending.{Ending};
 ghost use Rattle.helios_top.specs.Answer.{IsAnswer, report_for, world_of};
 ghost use Rattle.helios_top.specs.Ending.{text_of};
 ghost use Rattle.helios_top.specs.Reading.{schedule_of};
-ghost use Rattle.helios_top.specs.Run.{Ends, IsAccepted, IsDone, IsFault, IsRefused, IsStatus, MayEnd, ReadWhole, Wrote, WroteOneLine, WroteOptimal, WroteRefusal, WroteText, WroteVerdict};
+ghost use Rattle.helios_top.specs.Run.{Ends, IsAccepted, IsDone, IsFault, IsRefused, IsStatus, MayEnd, ReadWhole, Wrote, WroteOneLine, WroteOptimal, WroteRefusal, WroteText, WroteVerdict, most_input_bytes};
 ghost use Rattle.helios_top.specs.Words.{command_of, texts};
 
 use crate::words::read_words;
@@ -45,6 +45,14 @@ pub fn run<S: Source, K: Sink>(
         × AppendsPrefix (K.taken output.old) (K.taken output.new) (text_of ending) }
     ensures one_line { WroteOneLine (K.taken output.old) (K.taken output.new) result.0 }
 
+    // What holds of the input and the output however the run ends: nothing is asked of the input once
+    // it has given one byte more than a command reads.
+    ensures tells_input { StaysTold (S.left input.old) (S.left input.new) }
+    ensures later_input { S.faults input.old ≤ S.faults input.new }
+    ensures most { TakesAtMost (most_input_bytes + 1) (S.left input.old) (S.left input.new) }
+    ensures tells_output { StaysTold (K.taken output.old) (K.taken output.new) }
+    ensures later_output { K.faults output.old ≤ K.faults output.new }
+
     // Inputs that are refused.
     ensures refused { result.0 ≡ 5 → IfSome (S.left input.old)
         (λ bytes. IsRefused (command_of (texts words.now.items)) bytes) }
@@ -52,7 +60,7 @@ pub fn run<S: Source, K: Sink>(
         WroteRefusal (K.taken output.old) (K.taken output.new) (command_of (texts words.now.items)) bytes) }
     ensures refused_only { IfSome (S.left input.old)
         (λ bytes. IsRefused (command_of (texts words.now.items)) bytes → (result.0 ≡ 5) ⊎ IsFault result.0) }
-    ensures refused_to_end { result.0 ≡ 5 → IsOverLimit INPUT_LIMIT (S.left input.old)
+    ensures refused_to_end { result.0 ≡ 5 → IsOverLimit most_input_bytes (S.left input.old)
         ⊎ IsAtEnd (S.left input.new) }
 
     // Inputs that are accepted.
@@ -95,16 +103,25 @@ fn run_whole<S: Source, K: Sink>(
         (S.faults input.old) (S.faults input.new) (K.taken output.old) (K.taken output.new)
         (K.faults output.old) (K.faults output.new) result.0 }
     ensures unread { command_of (texts words.now.items) ≡ None → input.new ≡ input.old }
+    ensures tells_input { StaysTold (S.left input.old) (S.left input.new) }
+    ensures later_input { S.faults input.old ≤ S.faults input.new }
+    ensures most { TakesAtMost (most_input_bytes + 1) (S.left input.old) (S.left input.new) }
+    ensures tells_output { StaysTold (K.taken output.old) (K.taken output.new) }
+    ensures later_output { K.faults output.old ≤ K.faults output.new }
 {
     let ending = ending_of(alloc, words, input);
     write_ending(alloc, output, ending)
 }
 
 /// All that a run does before it writes.
+#[tactic(auto, using(crate::proofs::Runs::takes_nothing))]
 fn ending_of<S: Source>(alloc: Global, words: &Vec<String>, input: &mut S) -> Ending
     ensures unread { command_of (texts words.now.items) ≡ None → input.new ≡ input.old }
     ensures may_end { MayEnd (command_of (texts words.now.items)) (S.left input.old) (S.left input.new)
         (S.faults input.old) (S.faults input.new) result }
+    ensures tells_input { StaysTold (S.left input.old) (S.left input.new) }
+    ensures later_input { S.faults input.old ≤ S.faults input.new }
+    ensures most { TakesAtMost (most_input_bytes + 1) (S.left input.old) (S.left input.new) }
 {
     match read_words(words) {
         None => Ending::Usage,
@@ -114,8 +131,11 @@ fn ending_of<S: Source>(alloc: Global, words: &Vec<String>, input: &mut S) -> En
 
 /// What a command comes to over its input.
 fn read_and_answer<S: Source>(alloc: Global, command: Command, input: &mut S) -> Ending
-    ensures { MayEnd (Some command) (S.left input.old) (S.left input.new)
+    ensures may_end { MayEnd (Some command) (S.left input.old) (S.left input.new)
         (S.faults input.old) (S.faults input.new) result }
+    ensures tells_input { StaysTold (S.left input.old) (S.left input.new) }
+    ensures later_input { S.faults input.old ≤ S.faults input.new }
+    ensures most { TakesAtMost (most_input_bytes + 1) (S.left input.old) (S.left input.new) }
 {
     match read_whole(alloc, input, INPUT_LIMIT) {
         Ok(Some(bytes)) => answered(answer(alloc, command, bytes.as_slice())),
@@ -147,8 +167,10 @@ fn answer(alloc: Global, command: Command, input: &[u8]) -> Result<Answer, Alloc
 /// Writes what is due for the ending, or the line for want of memory where there is none for it.
 #[tactic(auto, unfolding(crate::specs::Ending::text_of))]
 fn write_ending<K: Sink>(alloc: Global, output: &mut K, ending: Ending) -> Status
-    ensures { Wrote (K.taken output.old) (K.taken output.new) (K.faults output.old) (K.faults output.new) result.0 ending
+    ensures wrote { Wrote (K.taken output.old) (K.taken output.new) (K.faults output.old) (K.faults output.new) result.0 ending
         ⊎ Wrote (K.taken output.old) (K.taken output.new) (K.faults output.old) (K.faults output.new) result.0 Ending.NoMemory }
+    ensures tells_output { StaysTold (K.taken output.old) (K.taken output.new) }
+    ensures later_output { K.faults output.old ≤ K.faults output.new }
 {
     let due = ending.status();
     match ending.into_text(alloc) {
@@ -159,8 +181,10 @@ fn write_ending<K: Sink>(alloc: Global, output: &mut K, ending: Ending) -> Statu
 
 /// Writes the text, and gives the status that is due, or 3 where a write fails.
 fn write_text<K: Sink>(output: &mut K, text: &[u8], due: u8) -> Status
-    ensures { WroteText (K.taken output.old) (K.taken output.new) (K.faults output.old) (K.faults output.new)
+    ensures wrote { WroteText (K.taken output.old) (K.taken output.new) (K.faults output.old) (K.faults output.new)
         result.0 due text.now }
+    ensures tells_output { StaysTold (K.taken output.old) (K.taken output.new) }
+    ensures later_output { K.faults output.old ≤ K.faults output.new }
 {
     match write_whole(output, text) {
         Ok(()) => Status(due),
