@@ -1,0 +1,5 @@
+pub mod Disk
+pub mod Outlook
+pub mod Moments
+pub mod Crash
+pub mod Places

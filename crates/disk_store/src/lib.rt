@@ -1,0 +1,11 @@
+//! Disks that may crash at any moment: the trait `Disk`, whose contract says what a read gives and
+//! which images a crash may leave, two forms in memory, and the adapter over a file.
+#![tactic(auto)]
+
+mod cells;
+mod fate;
+mod places;
+mod traits;
+
+pub use fate::{Keep, Stop};
+pub use traits::Disk;

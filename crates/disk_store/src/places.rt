@@ -1,0 +1,91 @@
+// The bytes of a disk in memory, as they read and as they were synced, and the marks of what was written.
+ghost use Rattle.std.specs.Prelude.{◌≡◌, ◌+◌, ◌-◌, ◌≤◌, max, min, length, take, drop, IfOk, OnOk, OnErr};
+ghost use Rattle.disk_store.specs.Disk.{IsImage, GivesBytes, at_rest, after_write, after_sync};
+ghost use Rattle.disk_store.specs.Crash.{kept};
+ghost use Rattle.disk_store.specs.Places.{Stored};
+
+use crate::Keep;
+use crate::cells::{mark, put_bytes};
+use std::alloc::AllocError;
+use std::marker::Model;
+
+#[derive(Drop)]
+pub(crate) struct Places {
+    bytes: Vec<u8>,
+    synced: Vec<u8>,
+    written: Vec<bool>,
+    room: u64,
+}
+
+impl Model for Places {
+    ghost use Rattle.std.specs.Prelude.{vec_capacity};
+    ghost use Rattle.disk_store.specs.Places.{Stored, HasRoom};
+
+    ghost Value = { Stored };
+
+    ghost view = { λ p. record {
+        disk = record { bytes = p.bytes.items; synced = p.synced.items; written = p.written.items };
+        room = p.room
+    } };
+
+    ghost invariant = { λ p. HasRoom (record { bytes = p.bytes.items; synced = p.synced.items; written = p.written.items })
+        p.room (vec_capacity p.bytes) (vec_capacity p.synced) (vec_capacity p.written) };
+}
+
+impl Places {
+    /// These bytes, all of them synced, with the memory for the room.
+    pub(crate) fn new(mut bytes: Vec<u8>, room: u64) -> Result<Places, AllocError>
+        requires { length bytes.items ≤ room }
+        ensures { IfOk result (λ places. places ≡ record { disk = at_rest bytes.items; room = room }) }
+    {
+        let alloc = *bytes.allocator();
+        let size = bytes.len();
+        bytes.reserve(room as usize - size)?;
+        let mut synced = Vec::with_capacity(alloc, room as usize)?;
+        synced.extend_from_slice(&bytes)?;
+        let mut written = Vec::with_capacity(alloc, room as usize)?;
+        written.resize(size, false)?;
+        Ok(Places {
+            bytes,
+            synced,
+            written,
+            room,
+        })
+    }
+
+    pub(crate) fn len(&self) -> u64
+        ensures length { result ≡ length self.now.disk.bytes }
+        ensures image { IsImage self.now.disk self.now.disk.bytes }
+        ensures fits { length self.now.disk.bytes ≤ self.now.room }
+    {
+        self.bytes.len() as u64
+    }
+
+    pub(crate) fn read(&self, at: u64, into: &mut [u8]) -> usize
+        ensures { GivesBytes self.now.disk.bytes at into.new result }
+    {
+        copy_from(&self.bytes, at, into)
+    }
+
+    /// Writes over the bytes from a place on, and past the end.
+    pub(crate) fn write(&mut self, at: u64, from: &[u8])
+        requires place { at ≤ length self.old.disk.bytes }
+        requires room { at + length from.now ≤ self.old.room }
+        ensures written { self.new ≡ record { disk = after_write at from.now self.old.disk; room = self.old.room } }
+        ensures image { IsImage self.new.disk self.new.disk.bytes }
+    {
+        put_bytes(&mut self.bytes, at as usize, from);
+        mark(&mut self.written, at as usize, from.len());
+    }
+}
+
+/// Copies the bytes from a place on, up to the end or to the buffer's length, and gives their number.
+fn copy_from(bytes: &[u8], at: u64, into: &mut [u8]) -> usize
+    ensures { GivesBytes bytes.now at into.new result }
+{
+    let start = bytes.len().min(at as usize);
+    let rest = bytes.split_at(start).1;
+    let count = rest.len().min(into.len());
+    into[..count].copy_from_slice(&rest[..count]);
+    count
+}
