@@ -3,3 +3,5 @@ pub mod Outlook
 pub mod Moments
 pub mod Crash
 pub mod Places
+pub mod Fates
+pub mod Memory

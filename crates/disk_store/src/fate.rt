@@ -1,3 +1,10 @@
+// Which calls of a disk in memory fail, and what a crash leaves.
+ghost use Rattle.std.specs.Prelude.{◌≡◌, ◌||◌, not, [], if◌then◌else◌};
+ghost use Rattle.disk_store.specs.Fates.{script_turn, script_next, faults_next};
+
+use std::alloc::Global;
+use std::marker::Model;
+
 /// What a crash leaves where it comes by a script.
 #[derive(Clone, Copy, Debug, PartialEq, Eq)]
 pub enum Keep {
@@ -15,4 +22,103 @@ pub struct Stop {
     /// The call that fails, from 1, counted over all four calls of the trait.
     pub call: u8,
     pub keep: Keep,
+}
+
+/// A stop that a disk was given.
+#[derive(Clone, Copy, Debug, PartialEq, Eq)]
+pub struct Script {
+    /// How many calls there are up to the one that fails, or 0 once it has failed.
+    pub left: u8,
+    pub keep: Keep,
+}
+
+/// What becomes of one call.
+#[derive(Clone, Copy, Debug, PartialEq, Eq)]
+pub(crate) enum Turn {
+    /// It is done and answers Ok.
+    Done,
+    /// It is done and answers that it failed.
+    Stopped,
+    /// It does nothing and answers that it failed.
+    Skipped,
+}
+
+/// Which calls fail, by a script or by a list of their numbers.
+#[derive(Drop)]
+pub(crate) struct Fate {
+    pub(crate) script: Option<Script>,
+    fails: Vec<u64>,
+    calls: u64,
+    faults: u64,
+}
+
+impl Model for Fate {
+    ghost use Rattle.disk_store.specs.Fates.{FateState};
+
+    ghost Value = { FateState };
+
+    ghost view = { λ f. record { script = f.script; fails = f.fails.items; calls = f.calls; faults = f.faults } };
+}
+
+impl Fate {
+    ghost use Rattle.disk_store.specs.Fates.{FateState, turn_of, fate_next};
+
+    pub(crate) fn new(alloc: Global) -> Fate
+        ensures { result ≡ record { script = None; fails = []; calls = 0; faults = 0 } }
+    {
+        Fate {
+            script: None,
+            fails: Vec::new(alloc),
+            calls: 0,
+            faults: 0,
+        }
+    }
+
+    /// Counts a call, which finds room or does not, and says what becomes of it.
+    pub(crate) fn take_turn(&mut self, fits: bool) -> Turn
+        ensures turn { result ≡ turn_of fits self.old }
+        ensures next { self.new ≡ fate_next result self.old }
+    {
+        let named = self.fails.contains(&self.calls);
+        let turn = turn_by(named, fits, self.script);
+        self.calls = self.calls.saturating_add(1);
+        self.script = one_call_later(self.script);
+        self.faults = faults_after(turn, self.faults);
+        turn
+    }
+}
+
+fn turn_by(named: bool, fits: bool, script: Option<Script>) -> Turn
+    ensures { result ≡ (if named || not fits then Turn.Skipped else script_turn script) }
+{
+    if named || !fits {
+        return Turn::Skipped;
+    }
+    match script {
+        None => Turn::Done,
+        Some(script) if script.left == 0 => Turn::Skipped,
+        Some(script) if script.left == 1 => Turn::Stopped,
+        Some(_) => Turn::Done,
+    }
+}
+
+fn one_call_later(script: Option<Script>) -> Option<Script>
+    ensures { result ≡ script_next script }
+{
+    match script {
+        None => None,
+        Some(script) => Some(Script {
+            left: script.left.saturating_sub(1),
+            keep: script.keep,
+        }),
+    }
+}
+
+fn faults_after(turn: Turn, faults: u64) -> u64
+    ensures { result ≡ faults_next turn faults }
+{
+    match turn {
+        Turn::Done => faults,
+        Turn::Stopped | Turn::Skipped => faults.saturating_add(1),
+    }
 }

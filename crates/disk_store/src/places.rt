@@ -1,7 +1,7 @@
 // The bytes of a disk in memory, as they read and as they were synced, and the marks of what was written.
-ghost use Rattle.std.specs.Prelude.{◌≡◌, ◌+◌, ◌-◌, ◌≤◌, max, min, length, take, drop, IfOk, OnOk, OnErr};
+ghost use Rattle.std.specs.Prelude.{◌≡◌, ◌+◌, ◌-◌, ◌≤◌, max, min, length, take, drop, IfOk, OnOk, OnErr, nat_le};
 ghost use Rattle.disk_store.specs.Disk.{IsImage, GivesBytes, at_rest, after_write, after_sync};
-ghost use Rattle.disk_store.specs.Crash.{kept};
+ghost use Rattle.disk_store.specs.Crash.{kept, fill_written};
 ghost use Rattle.disk_store.specs.Places.{Stored};
 
 use crate::Keep;
@@ -77,6 +77,65 @@ impl Places {
         put_bytes(&mut self.bytes, at as usize, from);
         mark(&mut self.written, at as usize, from.len());
     }
+
+    /// Makes all that was written durable.
+    pub(crate) fn sync(&mut self)
+        ensures synced { self.new ≡ record { disk = after_sync self.old.disk; room = self.old.room } }
+        ensures image { IsImage self.new.disk self.new.disk.bytes }
+    {
+        let size = self.bytes.len();
+        self.synced.clear();
+        self.synced.extend_from_slice(&self.bytes).unwrap();
+        self.written.clear();
+        self.written.resize(size, false).unwrap();
+    }
+
+    /// Leaves one image, all of it synced.
+    #[tactic(auto, using(crate::proofs::Fill::kept_image))]
+    pub(crate) fn crash(&mut self, keep: Keep)
+        ensures left { self.new ≡ record { disk = at_rest (kept keep self.old.disk); room = self.old.room } }
+        ensures image { IsImage self.old.disk (kept keep self.old.disk) }
+    {
+        match keep {
+            Keep::All => {}
+            Keep::Nothing => {
+                self.bytes.clear();
+                self.bytes.extend_from_slice(&self.synced).unwrap();
+            }
+            Keep::Byte(byte) => fill(&mut self.bytes, &self.written, byte),
+        }
+        let size = self.bytes.len();
+        self.synced.clear();
+        self.synced.extend_from_slice(&self.bytes).unwrap();
+        self.written.clear();
+        self.written.resize(size, false).unwrap();
+    }
+
+    /// Makes room for so many bytes past the end.
+    pub(crate) fn make_room(&mut self, more: u64) -> Result<(), AllocError>
+        ensures ok { OnOk result (self.new ≡ record { disk = self.old.disk; room = max self.old.room (length self.old.disk.bytes + more) }) }
+        ensures err { OnErr result (self.new ≡ self.old) }
+    {
+        let size = self.bytes.len() as u64;
+        let Some(room) = size.checked_add(more) else {
+            return Err(AllocError);
+        };
+        if room > self.room {
+            self.bytes.reserve(more as usize)?;
+            self.synced.reserve(room as usize - self.synced.len())?;
+            self.written.reserve(more as usize)?;
+            self.room = room;
+        }
+        Ok(())
+    }
+
+    /// Whether so many bytes from a place on end within the room.
+    pub(crate) fn fits(&self, at: u64, size: usize) -> bool
+        requires { at ≤ length self.now.disk.bytes }
+        ensures { result ≡ nat_le (at + size) self.now.room }
+    {
+        size as u64 <= self.room - at
+    }
 }
 
 /// Copies the bytes from a place on, up to the end or to the buffer's length, and gives their number.
@@ -88,4 +147,17 @@ fn copy_from(bytes: &[u8], at: u64, into: &mut [u8]) -> usize
     let count = rest.len().min(into.len());
     into[..count].copy_from_slice(&rest[..count]);
     count
+}
+
+/// Puts a byte into each place that was written.
+#[tactic(auto, using(crate::proofs::Fill::fill_more))]
+fn fill(bytes: &mut [u8], written: &[bool], byte: u8)
+    requires { length written.now ≤ length bytes.old }
+    ensures { bytes.new ≡ fill_written byte written.now bytes.old }
+{
+    for (place, was_written) in written.iter().enumerate() {
+        if *was_written {
+            bytes[place] = byte;
+        }
+    }
 }
