@@ -1,5 +1,6 @@
 // Which calls of a disk in memory fail, and what a crash leaves.
 ghost use Rattle.std.specs.Prelude.{◌≡◌, ◌||◌, not, [], if◌then◌else◌};
+ghost use Rattle.outside_io.specs.Causes.{IsCount};
 ghost use Rattle.disk_store.specs.Fates.{script_turn, script_next, faults_next};
 
 use std::alloc::Global;
@@ -62,6 +63,7 @@ impl Model for Fate {
 
 impl Fate {
     ghost use Rattle.disk_store.specs.Fates.{FateState, turn_of, fate_next};
+    ghost use Rattle.disk_store.specs.Memory.{keep_of};
 
     pub(crate) fn new(alloc: Global) -> Fate
         ensures { result ≡ record { script = None; fails = []; calls = 0; faults = 0 } }
@@ -74,10 +76,51 @@ impl Fate {
         }
     }
 
+    /// From here on the call with the stop's number is the one that fails.
+    pub(crate) fn set_script(&mut self, stop: Stop)
+        ensures { self.new ≡ record self.old { script = Some (record { left = stop.call; keep = stop.keep }) } }
+    {
+        self.script = Some(Script {
+            left: stop.call,
+            keep: stop.keep,
+        });
+    }
+
+    /// Ends the script and says what it keeps, or nothing where there is none.
+    pub(crate) fn end_script(&mut self) -> Keep
+        ensures keep { result ≡ keep_of self.old.script }
+        ensures ended { self.new ≡ record self.old { script = None } }
+    {
+        let keep = match self.script {
+            None => Keep::Nothing,
+            Some(script) => script.keep,
+        };
+        self.script = None;
+        keep
+    }
+
+    /// From here on the calls with these numbers fail.
+    pub(crate) fn set_fails(&mut self, fails: Vec<u64>)
+        ensures { self.new ≡ record self.old { fails = fails.items; calls = 0 } }
+    {
+        self.fails = fails;
+        self.calls = 0;
+    }
+
+    /// No call is to fail.
+    pub(crate) fn clear(&mut self)
+        ensures { self.new ≡ record { script = None; fails = []; calls = 0; faults = self.old.faults } }
+    {
+        self.script = None;
+        self.fails.clear();
+        self.calls = 0;
+    }
+
     /// Counts a call, which finds room or does not, and says what becomes of it.
     pub(crate) fn take_turn(&mut self, fits: bool) -> Turn
         ensures turn { result ≡ turn_of fits self.old }
         ensures next { self.new ≡ fate_next result self.old }
+        ensures count { IsCount self.old.faults }
     {
         let named = self.fails.contains(&self.calls);
         let turn = turn_by(named, fits, self.script);

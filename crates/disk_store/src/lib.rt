@@ -4,8 +4,10 @@
 
 mod cells;
 mod fate;
+mod memory;
 mod places;
 mod traits;
 
-pub use fate::{Keep, Stop};
+pub use fate::{Keep, Script, Stop};
+pub use memory::MemDisk;
 pub use traits::Disk;

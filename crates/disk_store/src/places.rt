@@ -1,5 +1,5 @@
 // The bytes of a disk in memory, as they read and as they were synced, and the marks of what was written.
-ghost use Rattle.std.specs.Prelude.{◌≡◌, ◌+◌, ◌-◌, ◌≤◌, max, min, length, take, drop, IfOk, OnOk, OnErr, nat_le};
+ghost use Rattle.std.specs.Prelude.{◌≡◌, ◌+◌, ◌-◌, ◌≤◌, [], max, min, length, take, drop, IfOk, OnOk, OnErr, nat_le};
 ghost use Rattle.disk_store.specs.Disk.{IsImage, GivesBytes, at_rest, after_write, after_sync};
 ghost use Rattle.disk_store.specs.Crash.{kept, fill_written};
 ghost use Rattle.disk_store.specs.Places.{Stored};
@@ -36,7 +36,8 @@ impl Places {
     /// These bytes, all of them synced, with the memory for the room.
     pub(crate) fn new(mut bytes: Vec<u8>, room: u64) -> Result<Places, AllocError>
         requires { length bytes.items ≤ room }
-        ensures { IfOk result (λ places. places ≡ record { disk = at_rest bytes.items; room = room }) }
+        ensures made { IfOk result (λ places. places ≡ record { disk = at_rest bytes.items; room = room }) }
+        ensures image { IfOk result (λ places. IsImage places.disk places.disk.bytes) }
     {
         let alloc = *bytes.allocator();
         let size = bytes.len();
@@ -95,6 +96,7 @@ impl Places {
     pub(crate) fn crash(&mut self, keep: Keep)
         ensures left { self.new ≡ record { disk = at_rest (kept keep self.old.disk); room = self.old.room } }
         ensures image { IsImage self.old.disk (kept keep self.old.disk) }
+        ensures settled { IsImage self.new.disk self.new.disk.bytes }
     {
         match keep {
             Keep::All => {}
@@ -109,6 +111,16 @@ impl Places {
         self.synced.extend_from_slice(&self.bytes).unwrap();
         self.written.clear();
         self.written.resize(size, false).unwrap();
+    }
+
+    /// Makes it empty.
+    pub(crate) fn clear(&mut self)
+        ensures left { self.new ≡ record { disk = at_rest []; room = self.old.room } }
+        ensures image { IsImage self.new.disk self.new.disk.bytes }
+    {
+        self.bytes.clear();
+        self.synced.clear();
+        self.written.clear();
     }
 
     /// Makes room for so many bytes past the end.
