@@ -54,3 +54,21 @@ marked_more at place old le before =
     ∙ over-over at (replicate n true) (true ∷ []) old le
     ∙ ap (λ (l : List Bool). over at l old) (replicate-append-replicate n 1 true)
     ∙ ap (λ (k : ℕ). over at (replicate k true) old) more
+
+-- the items before, within and behind the range that is replaced
+module _ {X : Type 0} (at : ℕ) (ys xs : List X) (le : at ≤ length xs) (place : ℕ) (d : X) where
+  pub over_before : place < at → get_or (over at ys xs) place d ≡ get_or xs place d
+  over_before lt =
+      get_or_append_left (take at xs ++ ys) (drop (at + length ys) xs) d place (omega (arith, front at ys xs le))
+      ∙ get_or_append_left (take at xs) ys d place (omega (arith, length-take-le at xs le)) ∙ get_or-take at xs place d lt
+
+  pub over_within : at ≤ place → place < at + length ys → get_or (over at ys xs) place d ≡ get_or ys (place - at) d
+  over_within ge lt =
+      get_or_append_left (take at xs ++ ys) (drop (at + length ys) xs) d place (omega (arith, front at ys xs le))
+      ∙ get_or-append_right (take at xs) ys at place d (length-take-le at xs le) ge
+
+  pub over_behind : at + length ys ≤ place → get_or (over at ys xs) place d ≡ get_or xs place d
+  over_behind ge =
+      let back : at + length ys + (place - (at + length ys)) ≡ place = omega arith in
+      get_or-append_right (take at xs ++ ys) (drop (at + length ys) xs) (at + length ys) place d (front at ys xs le) ge
+      ∙ get_or-drop (at + length ys) xs (place - (at + length ys)) d ∙ ap (λ (n : ℕ). get_or xs n d) back

@@ -5,3 +5,4 @@ pub mod Crash
 pub mod Places
 pub mod Fates
 pub mod Memory
+pub mod Records

@@ -4,6 +4,7 @@
 
 mod cells;
 mod fate;
+mod history;
 mod memory;
 mod places;
 mod traits;

@@ -151,7 +151,7 @@ impl Places {
 }
 
 /// Copies the bytes from a place on, up to the end or to the buffer's length, and gives their number.
-fn copy_from(bytes: &[u8], at: u64, into: &mut [u8]) -> usize
+pub(crate) fn copy_from(bytes: &[u8], at: u64, into: &mut [u8]) -> usize
     ensures { GivesBytes bytes.now at into.new result }
 {
     let start = bytes.len().min(at as usize);
