@@ -1,3 +1,4 @@
+pub mod Clearing
 pub mod Fill
 pub mod Over
 pub mod Records

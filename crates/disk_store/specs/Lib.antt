@@ -6,3 +6,4 @@ pub mod Places
 pub mod Fates
 pub mod Memory
 pub mod Records
+pub mod Bench

@@ -39,3 +39,11 @@ outlook_of (number ∷ fails) room script = None
 abbrev pub keep_of : Option Script → Keep
 keep_of None = Nothing
 keep_of (Some script) = script.keep
+
+-- a disk as it is made without bytes and without room
+abbrev pub empty_disk : MemState
+empty_disk = record { disk = at_rest []; room = 0; fate = record { script = None; fails = []; calls = 0; faults = 0 } }
+
+-- a disk that was made empty: no script, no list of failing calls, and its room and count of faults as before
+abbrev pub cleared : MemState → MemState
+cleared old = record { disk = at_rest []; room = old.room; fate = record { script = None; fails = []; calls = 0; faults = old.fate.faults } }

@@ -5,7 +5,7 @@ ghost use Rattle.outside_io.specs.Causes.{HasCause};
 ghost use Rattle.disk_store.specs.Disk.{IsImage, GivesBytes, MayHaveWritten, at_rest, after_write, after_sync};
 ghost use Rattle.disk_store.specs.Crash.{kept};
 ghost use Rattle.disk_store.specs.Fates.{turn_of, succeeded, was_done};
-ghost use Rattle.disk_store.specs.Memory.{MemState, after_call, if_done, outlook_of, keep_of};
+ghost use Rattle.disk_store.specs.Memory.{MemState, after_call, if_done, outlook_of, keep_of, cleared};
 
 use crate::fate::{Fate, Turn};
 use crate::places::Places;
@@ -85,11 +85,7 @@ impl MemDisk {
 
     /// Makes the disk empty, without a script and without a list of failing calls.
     pub fn clear(&mut self)
-        ensures { self.new ≡ record {
-            disk = at_rest [];
-            room = self.old.room;
-            fate = record { script = None; fails = []; calls = 0; faults = self.old.fate.faults }
-        } }
+        ensures { self.new ≡ cleared self.old }
     {
         self.places.clear();
         self.fate.clear();
