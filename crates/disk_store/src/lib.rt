@@ -18,3 +18,6 @@ pub use file::FileDisk;
 pub use memory::MemDisk;
 pub use record::RecordDisk;
 pub use traits::Disk;
+
+#[cfg(test)]
+mod tests;
