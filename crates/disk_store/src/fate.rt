@@ -1,8 +1,9 @@
 // Which calls of a disk in memory fail, and what a crash leaves.
-ghost use Rattle.std.specs.Prelude.{◌≡◌, ◌||◌, not, [], if◌then◌else◌};
+ghost use Rattle.std.specs.Prelude.{◌≡◌, ◌||◌, not, [], if◌then◌else◌, is_ok};
 ghost use Rattle.outside_io.specs.Causes.{IsCount};
-ghost use Rattle.disk_store.specs.Fates.{script_turn, script_next, faults_next};
+ghost use Rattle.disk_store.specs.Fates.{script_turn, script_next, succeeded, faults_next};
 
+use outside_io::Failed;
 use std::alloc::Global;
 use std::marker::Model;
 
@@ -42,6 +43,18 @@ pub(crate) enum Turn {
     Stopped,
     /// It does nothing and answers that it failed.
     Skipped,
+}
+
+impl Turn {
+    /// What a call without a value answers.
+    pub(crate) fn answer(self) -> Result<(), Failed>
+        ensures { is_ok result ≡ succeeded self }
+    {
+        match self {
+            Turn::Done => Ok(()),
+            Turn::Stopped | Turn::Skipped => Err(Failed),
+        }
+    }
 }
 
 /// Which calls fail, by a script or by a list of their numbers.

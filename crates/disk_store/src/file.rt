@@ -42,6 +42,15 @@ impl<R: Files> FileDisk<R> {
             Err(_) => Err(Failed),
         }
     }
+
+    /// Raises the count of faults, up to its last value.
+    fn count_fault(&mut self) -> Failed
+        ensures next { self.new ≡ one_more self.old }
+        ensures count { IsCount self.old }
+    {
+        self.faults = self.faults.saturating_add(1);
+        Failed
+    }
 }
 
 impl<R: Files> Disk for FileDisk<R>
@@ -62,10 +71,7 @@ where
     {
         match self.file.metadata() {
             Ok(metadata) => Ok(metadata.len()),
-            Err(_) => {
-                self.faults = self.faults.saturating_add(1);
-                Err(Failed)
-            }
+            Err(_) => Err(self.count_fault()),
         }
     }
 
@@ -76,10 +82,7 @@ where
     {
         match read_all_at(&self.file, at, into) {
             Some(count) => Ok(count),
-            None => {
-                self.faults = self.faults.saturating_add(1);
-                Err(Failed)
-            }
+            None => Err(self.count_fault()),
         }
     }
 
@@ -89,10 +92,7 @@ where
     {
         match self.file.write_all_at(from, at) {
             Ok(()) => Ok(()),
-            Err(_) => {
-                self.faults = self.faults.saturating_add(1);
-                Err(Failed)
-            }
+            Err(_) => Err(self.count_fault()),
         }
     }
 
@@ -102,10 +102,7 @@ where
     {
         match self.file.sync_all() {
             Ok(()) => Ok(()),
-            Err(_) => {
-                self.faults = self.faults.saturating_add(1);
-                Err(Failed)
-            }
+            Err(_) => Err(self.count_fault()),
         }
     }
 }

@@ -138,17 +138,11 @@ impl Disk for MemDisk {
         ensures image { IsImage self.new.disk self.new.disk.bytes }
     {
         let fits = self.places.fits(at, from.len());
-        match self.fate.take_turn(fits) {
-            Turn::Done => {
-                self.places.write(at, from);
-                Ok(())
-            }
-            Turn::Stopped => {
-                self.places.write(at, from);
-                Err(Failed)
-            }
-            Turn::Skipped => Err(Failed),
+        let turn = self.fate.take_turn(fits);
+        if turn != Turn::Skipped {
+            self.places.write(at, from);
         }
+        turn.answer()
     }
 
     fn sync(&mut self) -> Result<(), Failed>
@@ -158,12 +152,11 @@ impl Disk for MemDisk {
         ensures cause { HasCause self.old.fate.faults self.new.fate.faults result }
         ensures image { IsImage self.new.disk self.new.disk.bytes }
     {
-        match self.fate.take_turn(true) {
-            Turn::Done => {
-                self.places.sync();
-                Ok(())
-            }
-            Turn::Stopped | Turn::Skipped => Err(Failed),
+        let turn = self.fate.take_turn(true);
+        // A sync that answers that it failed counts as none.
+        if turn == Turn::Done {
+            self.places.sync();
         }
+        turn.answer()
     }
 }

@@ -1,5 +1,5 @@
 // The bytes of a disk in memory, as they read and as they were synced, and the marks of what was written.
-ghost use Rattle.std.specs.Prelude.{◌≡◌, ◌+◌, ◌-◌, ◌≤◌, [], max, min, length, take, drop, IfOk, OnOk, OnErr, nat_le};
+ghost use Rattle.std.specs.Prelude.{◌≡◌, ◌+◌, ◌-◌, ◌≤◌, [], max, min, length, take, drop, IfOk, OnOk, OnErr, nat_le, vec_capacity, replicate, false};
 ghost use Rattle.disk_store.specs.Disk.{IsImage, GivesBytes, at_rest, after_write, after_sync};
 ghost use Rattle.disk_store.specs.Crash.{kept, fill_written};
 ghost use Rattle.disk_store.specs.Places.{Stored};
@@ -84,11 +84,7 @@ impl Places {
         ensures synced { self.new ≡ record { disk = after_sync self.old.disk; room = self.old.room } }
         ensures image { IsImage self.new.disk self.new.disk.bytes }
     {
-        let size = self.bytes.len();
-        self.synced.clear();
-        self.synced.extend_from_slice(&self.bytes).unwrap();
-        self.written.clear();
-        self.written.resize(size, false).unwrap();
+        settle(&self.bytes, &mut self.synced, &mut self.written);
     }
 
     /// Leaves one image, all of it synced.
@@ -106,11 +102,7 @@ impl Places {
             }
             Keep::Byte(byte) => fill(&mut self.bytes, &self.written, byte),
         }
-        let size = self.bytes.len();
-        self.synced.clear();
-        self.synced.extend_from_slice(&self.bytes).unwrap();
-        self.written.clear();
-        self.written.resize(size, false).unwrap();
+        settle(&self.bytes, &mut self.synced, &mut self.written);
     }
 
     /// Makes it empty.
@@ -159,6 +151,21 @@ pub(crate) fn copy_from(bytes: &[u8], at: u64, into: &mut [u8]) -> usize
     let count = rest.len().min(into.len());
     into[..count].copy_from_slice(&rest[..count]);
     count
+}
+
+/// Notes these bytes as synced, and no place as written.
+fn settle(bytes: &[u8], synced: &mut Vec<u8>, written: &mut Vec<bool>)
+    requires synced_room { length bytes.now ≤ vec_capacity synced.old }
+    requires written_room { length bytes.now ≤ vec_capacity written.old }
+    ensures synced { synced.new.items ≡ bytes.now }
+    ensures written { written.new.items ≡ replicate (length bytes.now) false }
+    ensures synced_kept { vec_capacity synced.old ≤ vec_capacity synced.new }
+    ensures written_kept { vec_capacity written.old ≤ vec_capacity written.new }
+{
+    synced.clear();
+    synced.extend_from_slice(bytes).unwrap();
+    written.clear();
+    written.resize(bytes.len(), false).unwrap();
 }
 
 /// Puts a byte into each place that was written.
