@@ -6,7 +6,7 @@ use Rattle.std.proofs.lemmas.List.Elements.{All-nil, All-cons, All-append, All-w
 use Rattle.disk_store.specs.Disk.{DiskState}
 use Rattle.disk_store.specs.Moments.{Elapses, pushed, states_since, GoesOn, AtEachMoment}
 
-abbrev Past : Type 0
+abbrev pub Past : Type 0
 Past = Option (List DiskState)
 
 module _ (P : DiskState → Type 0) where

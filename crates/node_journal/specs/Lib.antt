@@ -1,0 +1,4 @@
+pub mod Frames
+pub mod Appending
+pub mod Opening
+pub mod Positions

@@ -1,0 +1,4 @@
+pub struct Journal {
+    gate: u64,
+    limit: u64,
+}
