@@ -25,3 +25,6 @@ pub frame_whole : (bytes payload : List ℕ) → IsSmall payload → bytes ≡ f
 frame_whole bytes payload small is =
     let inner : payload_in bytes ≡ payload = ap payload_in is ∙ payload_in-frame_of payload in
     (record { whole = is ∙ ap frame_of (sym inner); small = subst IsSmall (sym inner) small }, inner)
+
+pub frame_size : (payload : List ℕ) → length (frame_of payload) ≡ length payload + 5
+frame_size = length-frame_of

@@ -114,7 +114,7 @@ rest_images bytes image is =
       is.unwritten place within (get_or-replicate (length bytes) place false true within))
 
 module _ (gate : ℕ) (payload bytes : List ℕ) (within : gate < length bytes) where
-  abbrev staged : List ℕ
+  abbrev pub staged : List ℕ
   staged = over (gate + 1) (frame_of payload) bytes
 
   le_next : gate + 1 ≤ length bytes

@@ -1,3 +1,4 @@
+pub mod Appends
 pub mod Bytes
 pub mod Images
 pub mod Writing

@@ -1,7 +1,7 @@
 -- What one `append` does to a disk.
 use Rattle.std.specs.Prelude.{◌≡◌, ◌≢◌, ◌⊎◌, ℕ, ◌+◌, ◌-◌, ◌<◌, ◌≤◌, Bool, true, false, ◌&&◌, ◌==◌, nat_le, nat_lt, if◌then◌else◌, List, [], ◌∷◌, ◌++◌, length, slice_index, Option, IfSome}
 use Rattle.disk_store.specs.Disk.{DiskState, IsAtRest, TornWrite, over, after_write, after_sync}
-use Rattle.disk_store.specs.Outlook.{Outlook, Failing, never, at_call, already}
+use Rattle.disk_store.specs.Outlook.{Outlook, Failing, never, at_call, already, outlook_next}
 use Rattle.disk_store.specs.declared.fate.Keep.{Keep}
 use Rattle.disk_store.specs.declared.fate.Keep.TheVariants.{All, Nothing, Byte}
 use Rattle.node_journal.specs.Frames.{StandsFor, IsReadTo, EndsAt, frame_of}
@@ -55,3 +55,7 @@ is_kept call (Byte byte) = nat_le 3 call && (byte == 1)
 -- a disk while these bytes are written and synced: as before, with the write begun, or with the bytes durable
 abbrev pub WhileWriting : ℕ → List ℕ → DiskState → DiskState → Type 0
 WhileWriting at bytes old disk = (disk ≡ old) ⊎ TornWrite at (length bytes) old disk ⊎ (disk ≡ after_sync (after_write at bytes old))
+
+-- the outlook once four calls were made
+abbrev pub four_calls_later : Outlook → Outlook
+four_calls_later outlook = outlook_next (outlook_next (outlook_next (outlook_next outlook)))

@@ -1,5 +1,5 @@
 // Bytes that are written and made durable at once.
-ghost use Rattle.std.specs.Prelude.{◌≡◌, ◌+◌, ◌≤◌, ◌&&◌, Some, length, option_map, is_ok, nat_le, if◌then◌else◌, IfSome, OnOk, OnErr};
+ghost use Rattle.std.specs.Prelude.{◌≡◌, ◌+◌, ◌≤◌, ◌&&◌, Some, length, option_map, is_ok, is_some, nat_le, if◌then◌else◌, IfSome, OnOk, OnErr};
 ghost use Rattle.std.specs.Option.{ForSome};
 ghost use Rattle.outside_io.specs.Causes.{HasCause};
 ghost use Rattle.disk_store.specs.Disk.{MayHaveWritten, after_write, after_sync};
@@ -15,6 +15,7 @@ pub(crate) fn write_durably<D: Disk>(disk: &mut D, at: u64, bytes: &[u8]) -> Res
     requires { ForSome (D.state disk.old) (λ d. at ≤ length d.bytes) }
     ensures ok { OnOk result (D.state disk.new ≡ option_map (λ d. after_sync (after_write at bytes.now d)) (D.state disk.old)) }
     ensures err { OnErr result (MayHaveWritten at (length bytes.now) (D.state disk.old) (D.state disk.new)) }
+    ensures told { is_some (D.state disk.new) ≡ is_some (D.state disk.old) }
     ensures moments { IfSome (D.state disk.old) (λ d.
         AtEachMoment (D.past disk.old) (D.past disk.new) (D.state disk.new) (WhileWriting at bytes.now d)) }
     ensures answer { IfSome (D.outlook disk.old) (λ o. is_ok result ≡ (nat_le (at + length bytes.now) o.room && lasts 2 o.failing)) }

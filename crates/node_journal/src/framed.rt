@@ -1,4 +1,4 @@
-ghost use Rattle.std.specs.Prelude.{◌≡◌, ◌≤◌, length, IfOk};
+ghost use Rattle.std.specs.Prelude.{◌≡◌, ◌+◌, ◌≤◌, length, IfOk};
 ghost use Rattle.node_journal.specs.Frames.{IsSmall, frame_of, length_bytes};
 
 use helios_model::numbers::Bytes;
@@ -42,8 +42,10 @@ impl Framed {
     }
 
     /// What is written behind the gate.
+    #[tactic(auto, using(crate::proofs::Bytes::frame_size))]
     pub(crate) fn bytes(&self) -> &[u8]
         ensures bytes { result.now ≡ frame_of self.now }
+        ensures size { length result.now ≡ length self.now + 5 }
         ensures small { IsSmall self.now }
     {
         &self.bytes
