@@ -1,4 +1,5 @@
 pub mod Appends
 pub mod Bytes
 pub mod Images
+pub mod Opens
 pub mod Writing

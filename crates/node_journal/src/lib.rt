@@ -6,7 +6,10 @@ mod device;
 mod fault;
 mod framed;
 mod journal;
+mod open;
+mod reading;
 
 pub use fault::JournalFault;
 pub use framed::Framed;
 pub use journal::Journal;
+pub use reading::{Found, Reading};
