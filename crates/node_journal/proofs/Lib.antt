@@ -2,4 +2,5 @@ pub mod Appends
 pub mod Bytes
 pub mod Images
 pub mod Opens
+pub mod HeadLemmas
 pub mod Writing

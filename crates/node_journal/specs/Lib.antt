@@ -2,3 +2,5 @@ pub mod Frames
 pub mod Appending
 pub mod Opening
 pub mod Positions
+pub mod Heads
+pub mod Reading

@@ -5,6 +5,7 @@
 mod device;
 mod fault;
 mod framed;
+mod head;
 mod journal;
 mod open;
 mod reading;
