@@ -7,6 +7,7 @@ mod fault;
 mod framed;
 mod head;
 mod journal;
+mod next;
 mod open;
 mod reading;
 
