@@ -1,6 +1,7 @@
 pub mod Appends
 pub mod Bytes
 pub mod Images
+pub mod Lists
 pub mod Opens
 pub mod Founds
 pub mod HeadLemmas

@@ -7,6 +7,7 @@ mod fault;
 mod framed;
 mod head;
 mod journal;
+pub mod laws;
 mod next;
 mod open;
 mod reading;
