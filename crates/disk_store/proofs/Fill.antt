@@ -45,6 +45,13 @@ fill_kept byte place (mark ∷ marks) [] is = refl
 fill_kept byte zero (mark ∷ marks) (old ∷ bytes) is = rw is
 fill_kept byte (suc place) (mark ∷ marks) (old ∷ bytes) is = fill_kept byte place marks bytes is
 
+-- a place that was written has the byte
+pub fill_marked : (byte place : ℕ) (marks : List Bool) (bytes : List ℕ) → get_or marks place false ≡ true → place < length bytes → get_or (fill_written byte marks bytes) place 0 ≡ byte
+fill_marked byte place [] bytes is within = absurd (let clash : false ≡ true = is in cc)
+fill_marked byte place (mark ∷ marks) [] is within = absurd (omega arith)
+fill_marked byte zero (mark ∷ marks) (old ∷ bytes) is within = rw is
+fill_marked byte (suc place) (mark ∷ marks) (old ∷ bytes) is within = fill_marked byte place marks bytes is (omega arith)
+
 -- what a crash leaves is an image
 pub kept_image : (keep : Keep) (disk : DiskState) → IsImage disk disk.bytes → length disk.written ≡ length disk.bytes → IsImage disk (kept keep disk)
 kept_image All disk image marked = image

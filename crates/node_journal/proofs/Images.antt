@@ -172,6 +172,26 @@ module _ (gate : ℕ) (payload bytes : List ℕ) (within : gate < length bytes) 
         closed = λ is_open. let clash : 0 ≡ 1 = sym gate_is ∙ is_open in cc
       }
 
+  -- an image with the gate open and the rest as it was staged
+  pub gate_opened : (image : List ℕ) → TornFrom gate 1 staged image → get_or image gate 0 ≡ 1 → image ≡ sealed gate payload bytes
+  gate_opened image torn is_open =
+      let size : length image ≡ length staged = omega (arith, torn.no_shorter, torn.no_longer, staged_within) in
+      let le : gate ≤ length staged = omega (arith, staged_within) in
+      let size' : length (over gate (1 ∷ []) staged) ≡ length staged = omega (arith, length-over gate (1 ∷ []) staged le, staged_within) in
+      let whole : image ≡ over gate (1 ∷ []) staged = ext_get_or 0 image (over gate (1 ∷ []) staged) (omega (arith, size, size')) (λ place lt. elim (cases_lt place gate) [
+      | inl before ↦
+          sym (get_or-take gate image place 0 before) ∙ ap (λ (l : List ℕ). get_or l place 0) torn.before ∙ get_or-take gate staged place 0 before
+          ∙ sym (over_before gate (1 ∷ []) staged le place 0 before)
+      | inr past ↦ elim (cases_eq place gate) [
+        | inl here ↦
+            let gone : place - gate ≡ 0 = omega arith in
+            ap (λ (n : ℕ). get_or image n 0) here ∙ is_open
+            ∙ sym (over_within gate (1 ∷ []) staged le place 0 past (omega arith) ∙ ap (λ (n : ℕ). get_or (1 ∷ []) n 0) gone)
+        | inr beyond ↦ torn.behind place (omega arith) (omega (arith, size)) ∙ sym (over_behind gate (1 ∷ []) staged le place 0 (omega arith))
+        ]
+      ]) in
+      whole ∙ gate_over
+
   -- an image while the gate is written: the gate is open and the rest as it was staged, or it is not open
   pub gate_images : (payloads : List (List ℕ)) → IsReadTo bytes gate payloads → IsSmall payload → (image : List ℕ) → TornFrom gate 1 staged image → IsBeforeOrAfter payloads payload image
   gate_images payloads read small image torn =
@@ -179,28 +199,10 @@ module _ (gate : ℕ) (payload bytes : List ℕ) (within : gate < length bytes) 
       let within' : gate < length image = omega (arith, size, staged_within) in
       elim (cases_eq (get_or image gate 0) 1) [
       | inl is_open ↦
-          let whole : image ≡ sealed gate payload bytes = opened size is_open ∙ gate_over in
+          let whole : image ≡ sealed gate payload bytes = gate_opened image torn is_open in
           inr (subst (λ (l : List ℕ). StandsFor l (payloads ++ payload ∷ [])) (sym whole) (inr (gate + 5 + length payload, sealed_ends payloads read small)))
       | inr closed ↦ inl (inr (gate, ends_kept bytes image gate payloads read (torn.before ∙ staged_before) within' closed))
       ]
-    where
-      opened : length image ≡ length staged → get_or image gate 0 ≡ 1 → image ≡ over gate (1 ∷ []) staged
-      opened size is_open =
-          let le : gate ≤ length staged = omega (arith, staged_within) in
-          let size' : length (over gate (1 ∷ []) staged) ≡ length staged = omega (arith, length-over gate (1 ∷ []) staged le, staged_within) in
-          ext_get_or 0 image (over gate (1 ∷ []) staged) (omega (arith, size, size')) (λ place lt. elim (cases_lt place gate) [
-          | inl before ↦
-              sym (get_or-take gate image place 0 before) ∙ ap (λ (l : List ℕ). get_or l place 0) torn.before ∙ get_or-take gate staged place 0 before
-              ∙ sym (over_before gate (1 ∷ []) staged le place 0 before)
-          | inr past ↦ elim (cases_eq place gate) [
-            | inl here ↦
-                let gone : place - gate ≡ 0 = omega arith in
-                ap (λ (n : ℕ). get_or image n 0) here ∙ is_open
-                ∙ sym (over_within gate (1 ∷ []) staged le place 0 past (omega arith) ∙ ap (λ (n : ℕ). get_or (1 ∷ []) n 0) gone)
-            | inr beyond ↦ torn.behind place (omega arith) (omega (arith, size)) ∙ sym (over_behind gate (1 ∷ []) staged le place 0 (omega arith))
-            ]
-          ])
-
   -- an image while the frame is written behind a gate that is not open
   pub frame_images : (payloads : List (List ℕ)) → IsReadTo bytes gate payloads → get_or bytes gate 0 ≢ 1 → (size : ℕ) (image : List ℕ) → TornFrom (gate + 1) size bytes image → EndsAt image gate payloads
   frame_images payloads read closed size image torn =

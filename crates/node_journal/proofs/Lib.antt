@@ -5,4 +5,5 @@ pub mod Lists
 pub mod Opens
 pub mod Founds
 pub mod HeadLemmas
+pub mod Stops
 pub mod Writing
