@@ -8,7 +8,7 @@ use Rattle.disk_store.specs.Outlook.{Failing, never, at_call, already, failing_n
 use Rattle.disk_store.proofs.Moments.{Past, moments_start, moments_join, moments_weaker}
 use Rattle.node_journal.specs.Frames.{IsSmall, frame_of, IsReadTo, EndsAt, StandsFor}
 use Rattle.node_journal.specs.Appending.{IsReady, IsBeforeOrAfter, WhileWriting, sealed, lasts, failed_state, framed}
-use Rattle.node_journal.proofs.Images.{torn_images, rest_images, staged, staged_before, staged_within, staged_gate, gate_over, sealed_ends, gate_images, frame_images, ends_kept}
+use Rattle.node_journal.proofs.Images.{torn_images, rest_images, staged, staged_before, staged_within, staged_gate, gate_over, sealed_ends, gate_images, frame_images, ends_kept, sealed_within, sealed_closed}
 
 module _ (gate : ℕ) (payload : List ℕ) (small : IsSmall payload) where
   abbrev frame : List ℕ
@@ -27,23 +27,28 @@ module _ (gate : ℕ) (payload : List ℕ) (small : IsSmall payload) where
       let whole : image ≡ bytes = rest_images bytes image (subst (λ (d : DiskState). IsImage d image) same is) in
       subst (IsBeforeOrAfter payloads payload) (sym whole) (inl (inr (gate, record { read = read; closed = closed })))
   at_bytes bytes payloads within closed read disk (inr (inl torn)) image is =
-      inl (inr (gate, frame_images gate payload bytes within payloads read closed (length frame) image
-        (torn_images (gate + 1) (length frame) bytes (omega arith) disk image torn is)))
+      inl (inr (
+        gate,
+        frame_images gate payload bytes within payloads read closed (length frame) image
+            (torn_images (gate + 1) (length frame) bytes (omega arith) disk image torn is),
+      ))
   at_bytes bytes payloads within closed read disk (inr (inr done)) image is =
       let whole : image ≡ staged gate payload bytes within = rest_images (staged gate payload bytes within) image (subst (λ (d : DiskState). IsImage d image) done is) in
-      subst (IsBeforeOrAfter payloads payload) (sym whole) (inl (inr (gate,
+      subst (IsBeforeOrAfter payloads payload) (sym whole) (inl (inr (
+        gate,
         ends_kept bytes (staged gate payload bytes within) gate payloads read (staged_before gate payload bytes within) (staged_within gate payload bytes within)
-          (λ is_open. closed (sym (staged_gate gate payload bytes within) ∙ is_open)))))
+            (λ is_open. closed (sym (staged_gate gate payload bytes within) ∙ is_open)),
+      )))
 
   at_gate : (bytes : List ℕ) (payloads : List (List ℕ)) → (within : gate < length bytes) → get_or bytes gate 0 ≢ 1 → IsReadTo bytes gate payloads
       → (disk : DiskState) → WhileWriting gate (1 ∷ []) (at_rest (staged gate payload bytes within)) disk → Good payloads disk
   at_gate bytes payloads within closed read disk (inl same) = at_bytes bytes payloads within closed read disk (inr (inr same))
   at_gate bytes payloads within closed read disk (inr (inl torn)) = λ image is.
       gate_images gate payload bytes within payloads read small image
-        (torn_images gate 1 (staged gate payload bytes within) (omega (arith, staged_within gate payload bytes within)) disk image torn is)
+      (torn_images gate 1 (staged gate payload bytes within) (omega (arith, staged_within gate payload bytes within)) disk image torn is)
   at_gate bytes payloads within closed read disk (inr (inr done)) = λ image is.
       let whole : image ≡ sealed gate payload bytes = rest_images (over gate (1 ∷ []) (staged gate payload bytes within)) image (subst (λ (d : DiskState). IsImage d image) done is)
-        ∙ gate_over gate payload bytes within in
+      ∙ gate_over gate payload bytes within in
       subst (IsBeforeOrAfter payloads payload) (sym whole) (inr (inr (gate + 5 + length payload, sealed_ends gate payload bytes within payloads read small)))
 
   -- the same, of a disk that is ready
@@ -81,11 +86,34 @@ module _ (gate : ℕ) (payload : List ℕ) (small : IsSmall payload) where
       let one' : AtEachMoment past past1 (Some (middle disk)) (WhileWriting (gate + 1) frame disk) = subst (λ (s : Option DiskState). AtEachMoment past past1 s (WhileWriting (gate + 1) frame disk)) is one in
       let two' : AtEachMoment past1 past2 (Some t) (WhileWriting gate (1 ∷ []) (middle disk)) = subst (λ (s : Option DiskState). IfSome s (λ d. AtEachMoment past1 past2 (Some t) (WhileWriting gate (1 ∷ []) d))) is two in
       moments_join (Good payloads) past past1 past2 (middle disk) t
-        (moments_weaker (WhileWriting (gate + 1) frame disk) (Good payloads) (first_good disk (ready disk refl) payloads read) past past1 (middle disk) one')
-        (moments_weaker (WhileWriting gate (1 ∷ []) (middle disk)) (Good payloads) (second_good disk (ready disk refl) payloads read) past1 past2 t two')
+      (moments_weaker (WhileWriting (gate + 1) frame disk) (Good payloads) (first_good disk (ready disk refl) payloads read) past past1 (middle disk) one')
+      (moments_weaker (WhileWriting gate (1 ∷ []) (middle disk)) (Good payloads) (second_good disk (ready disk refl) payloads read) past1 past2 t two')
 
   -- one payload more
   pub one_more : (old : Option DiskState) → ForSome old (λ disk. IsReady disk gate)
       → IfSome old (λ disk. (payloads : List (List ℕ)) → IsReadTo disk.bytes gate payloads → EndsAt (sealed gate payload disk.bytes) (gate + 5 + length payload) (payloads ++ payload ∷ []))
   one_more None ready = tt
   one_more (Some disk) ready = λ payloads read. sealed_ends gate payload disk.bytes (ready disk refl).within payloads read small
+
+-- what was sealed is ready for the next payload
+pub sealed_ready : (old new : Option DiskState) (gate : ℕ) (payload : List ℕ) → ForSome old (λ disk. IsReady disk gate)
+    → new ≡ option_map (λ disk. at_rest (sealed gate payload disk.bytes)) old → ForSome new (λ disk. IsReady disk (gate + 5 + length payload))
+sealed_ready None new gate payload ready is disk told = absurd (let clash : Some disk ≡ None = sym told ∙ is in cc)
+sealed_ready (Some old) new gate payload ready is disk told =
+    let within : gate < length old.bytes = (ready old refl).within in
+    let same : disk ≡ at_rest (sealed gate payload old.bytes) = let both : Some disk ≡ Some (at_rest (sealed gate payload old.bytes)) = sym told ∙ is in cc in
+    let there : IsReady (at_rest (sealed gate payload old.bytes)) (gate + 5 + length payload) = record {
+      at_rest = refl;
+      within = sealed_within gate payload old.bytes within;
+      closed = λ is_open. let clash : 0 ≡ 1 = sym (sealed_closed gate payload old.bytes within) ∙ is_open in cc
+    } in
+    subst (λ (d : DiskState). IsReady d (gate + 5 + length payload)) (sym same) there
+
+-- the frame and then the gate, each durable, are what is sealed
+pub both_sealed : (old mid new : Option DiskState) (gate : ℕ) (payload : List ℕ) → ForSome old (λ disk. IsReady disk gate)
+    → mid ≡ option_map (λ disk. after_sync (after_write (gate + 1) (frame_of payload) disk)) old → new ≡ option_map (λ disk. after_sync (after_write gate (1 ∷ []) disk)) mid
+    → new ≡ option_map (λ disk. at_rest (sealed gate payload disk.bytes)) old
+both_sealed None mid new gate payload ready one two = two ∙ ap (option_map (λ disk. after_sync (after_write gate (1 ∷ []) disk))) one
+both_sealed (Some old) mid new gate payload ready one two =
+    two ∙ ap (option_map (λ disk. after_sync (after_write gate (1 ∷ []) disk))) one
+    ∙ ap (λ (bytes : List ℕ). Some (at_rest bytes)) (gate_over gate payload old.bytes (ready old refl).within)

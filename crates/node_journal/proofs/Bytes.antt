@@ -17,7 +17,7 @@ payload_in-frame_of : (payload : List ℕ) → payload_in (frame_of payload) ≡
 payload_in-frame_of payload =
     let size : length (frame_of payload) - 5 ≡ length payload = omega (arith, length-frame_of payload) in
     let rest : drop 4 (frame_of payload) ≡ payload ++ 0 ∷ [] =
-      ap (drop 4) (append_assoc (length_bytes (length payload)) payload (0 ∷ [])) ∙ drop_at (length_bytes (length payload)) (payload ++ 0 ∷ []) 4 (length-length_bytes (length payload)) in
+    ap (drop 4) (append_assoc (length_bytes (length payload)) payload (0 ∷ [])) ∙ drop_at (length_bytes (length payload)) (payload ++ 0 ∷ []) 4 (length-length_bytes (length payload)) in
     ap (λ (n : ℕ). take n (drop 4 (frame_of payload))) size ∙ ap (take (length payload)) rest ∙ take_at payload (0 ∷ []) (length payload) refl
 
 -- what was made for a payload is its frame

@@ -28,7 +28,7 @@ head_length (g ∷ a ∷ b ∷ c ∷ d ∷ []) size five small is_open is =
     record {
       within = omega arith;
       spelled = ap (λ (n : ℕ). n ∷ a ∷ b ∷ c ∷ d ∷ []) is_open ∙ ap (λ (l : List ℕ). 1 ∷ l) (sym four);
-      size_is = is
+      size_is = is;
     }
 
 module _ (bytes into : List ℕ) (gate count : ℕ) (within : gate < length bytes) (gives : GivesBytes bytes gate into count) (five : length into ≡ 5) where
@@ -52,12 +52,12 @@ module _ (bytes into : List ℕ) (gate count : ℕ) (within : gate < length byte
       let all : count ≡ 5 = omega (arith, has.within, size_part, gives.counted, five) in
       let part_is : part ≡ take 5 (drop gate bytes) = gives.given ∙ ap (λ (n : ℕ). take n (drop gate bytes)) all in
       let rest : take 4 (drop 1 part) ≡ take 4 (drop (gate + 1) bytes) =
-        ap (λ (l : List ℕ). take 4 (drop 1 l)) part_is ∙ ap (take 4) (drop-take 1 4 (drop gate bytes)) ∙ take-take 4 4 (drop 1 (drop gate bytes)) (omega arith)
-        ∙ ap (take 4) (drop-drop 1 gate bytes) in
+      ap (λ (l : List ℕ). take 4 (drop 1 l)) part_is ∙ ap (take 4) (drop-take 1 4 (drop gate bytes)) ∙ take-take 4 4 (drop 1 (drop gate bytes)) (omega arith)
+      ∙ ap (take 4) (drop-drop 1 gate bytes) in
       record {
         within = omega (arith, all, gives.counted);
         spelled = sym part_is ∙ sym (take_all 5 part (omega (arith, size_part))) ∙ has.spelled;
-        size_is = has.size_is ∙ ap length_from rest
+        size_is = has.size_is ∙ ap length_from rest;
       }
 
 -- the same, of a disk that may tell its contents

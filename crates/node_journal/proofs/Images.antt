@@ -28,7 +28,7 @@ size_read image gate payloads read = sym (ap length read.passed) ∙ length-take
 pub same_front : (n : ℕ) (xs ys : List ℕ) → n ≤ length xs → n ≤ length ys → ((i : ℕ) → i < n → get_or xs i 0 ≡ get_or ys i 0) → take n xs ≡ take n ys
 same_front n xs ys le_x le_y same =
     ext_get_or 0 (take n xs) (take n ys) (length-take-le n xs le_x ∙ sym (length-take-le n ys le_y))
-      (λ i lt. let below : i < n = omega (arith, length-take-le n xs le_x) in get_or-take n xs i 0 below ∙ same i below ∙ sym (get_or-take n ys i 0 below))
+    (λ i lt. let below : i < n = omega (arith, length-take-le n xs le_x) in get_or-take n xs i 0 below ∙ same i below ∙ sym (get_or-take n ys i 0 below))
 
 -- a frame behind the gate leads to the next gate
 pub read_more : (image : List ℕ) (gate : ℕ) (payload : List ℕ) (payloads : List (List ℕ)) → IsReadTo image gate payloads → HoldsFrame image gate payload
@@ -37,13 +37,13 @@ read_more image gate payload payloads read frame =
     let next = gate + 5 + length payload in
     let head = 1 ∷ length_bytes (length payload) ++ payload in
     let split : image ≡ (frames payloads ++ head) ++ drop next image =
-      sym (take-append-drop gate image) ∙ ap (λ (l : List ℕ). l ++ drop gate image) read.passed ∙ ap (λ (l : List ℕ). frames payloads ++ l) frame.frame
-      ∙ sym (append_assoc (frames payloads) head (drop next image)) in
+    sym (take-append-drop gate image) ∙ ap (λ (l : List ℕ). l ++ drop gate image) read.passed ∙ ap (λ (l : List ℕ). frames payloads ++ l) frame.frame
+    ∙ sym (append_assoc (frames payloads) head (drop next image)) in
     let size : length (frames payloads ++ head) ≡ next = omega (arith, length-append (frames payloads) head, length_frame payload, size_read image gate payloads read) in
     record {
       passed = ap (take next) split ∙ take_at (frames payloads ++ head) (drop next image) next size ∙ sym (frames-push payloads payload);
       within = frame.next;
-      small = All-push IsSmall payloads payload read.small frame.small
+      small = All-push IsSmall payloads payload read.small frame.small;
     }
 
 -- what stands behind the gate does not matter while it is not open
@@ -102,8 +102,8 @@ module _ (at size : ℕ) (bytes : List ℕ) (le : at ≤ length bytes) where
         no_shorter = omega (arith, is.no_shorter, synced);
         no_longer = omega (arith, is.no_longer, size_marks disk.written torn.written);
         before = same_front at image bytes (omega (arith, is.no_shorter, synced)) le
-          (λ place lt. is.unwritten place (omega (arith, synced)) (unmarked_before disk.written torn.written place lt) ∙ kept place);
-        behind = λ place ge lt. is.unwritten place (omega (arith, synced)) (unmarked_behind disk.written torn.written place ge lt) ∙ kept place
+            (λ place lt. is.unwritten place (omega (arith, synced)) (unmarked_before disk.written torn.written place lt) ∙ kept place);
+        behind = λ place ge lt. is.unwritten place (omega (arith, synced)) (unmarked_behind disk.written torn.written place ge lt) ∙ kept place;
       }
 
 -- a disk at rest has one image
@@ -111,7 +111,7 @@ pub rest_images : (bytes image : List ℕ) → IsImage (at_rest bytes) image →
 rest_images bytes image is =
     let size : length image ≡ length bytes = omega (arith, is.no_shorter, is.no_longer, length-replicate (length bytes) false) in
     ext_get_or 0 image bytes size (λ place lt. let within : place < length bytes = omega (arith, size) in
-      is.unwritten place within (get_or-replicate (length bytes) place false true within))
+    is.unwritten place within (get_or-replicate (length bytes) place false true within))
 
 module _ (gate : ℕ) (payload bytes : List ℕ) (within : gate < length bytes) where
   abbrev pub staged : List ℕ
@@ -139,8 +139,8 @@ module _ (gate : ℕ) (payload bytes : List ℕ) (within : gate < length bytes) 
   pub gate_over : over gate (1 ∷ []) staged ≡ sealed gate payload bytes
   gate_over =
       let rest : drop (gate + 1) staged ≡ frame_of payload ++ drop (gate + 1 + length (frame_of payload)) bytes =
-        ap (drop (gate + 1)) (append_assoc (take (gate + 1) bytes) (frame_of payload) (drop (gate + 1 + length (frame_of payload)) bytes))
-        ∙ drop_at (take (gate + 1) bytes) (frame_of payload ++ drop (gate + 1 + length (frame_of payload)) bytes) (gate + 1) (length-take-le (gate + 1) bytes le_next) in
+      ap (drop (gate + 1)) (append_assoc (take (gate + 1) bytes) (frame_of payload) (drop (gate + 1 + length (frame_of payload)) bytes))
+      ∙ drop_at (take (gate + 1) bytes) (frame_of payload ++ drop (gate + 1 + length (frame_of payload)) bytes) (gate + 1) (length-take-le (gate + 1) bytes le_next) in
       let ends : gate + 1 + length (frame_of payload) ≡ gate + length (1 ∷ frame_of payload) = omega arith in
       ap (λ (l : List ℕ). l ++ (1 ∷ []) ++ drop (gate + 1) staged) staged_before
       ∙ ap (λ (l : List ℕ). take gate bytes ++ (1 ∷ []) ++ l) rest
@@ -151,6 +151,20 @@ module _ (gate : ℕ) (payload bytes : List ℕ) (within : gate < length bytes) 
   size_sealed : length (sealed gate payload bytes) ≡ max (length bytes) (gate + (length payload + 6))
   size_sealed = omega (arith, length-over gate (1 ∷ frame_of payload) bytes (omega arith), length-frame_of payload)
 
+  -- the next gate stands there and is closed
+  pub sealed_within : gate + 5 + length payload < length (sealed gate payload bytes)
+  sealed_within = omega (arith, size_sealed)
+
+  pub sealed_closed : get_or (sealed gate payload bytes) (gate + 5 + length payload) 0 ≡ 0
+  sealed_closed =
+      let head = 1 ∷ length_bytes (length payload) ++ payload in
+      let rest = drop (gate + length (1 ∷ frame_of payload)) bytes in
+      let split : sealed gate payload bytes ≡ (take gate bytes ++ head) ++ 0 ∷ rest =
+        ap (λ (l : List ℕ). l ++ rest) (sym (append_assoc (take gate bytes) head (0 ∷ []))) ∙ append_assoc (take gate bytes ++ head) (0 ∷ []) rest in
+      let size : length (take gate bytes ++ head) ≡ gate + 5 + length payload =
+        omega (arith, length-append (take gate bytes) head, length_frame payload, length-take-le gate bytes (omega arith)) in
+      ap (λ (l : List ℕ). get_or l (gate + 5 + length payload) 0) split ∙ get_or_at (take gate bytes ++ head) 0 rest 0 (gate + 5 + length payload) size
+
   -- the next gate ends the list with one payload more
   pub sealed_ends : (payloads : List (List ℕ)) → IsReadTo bytes gate payloads → IsSmall payload → EndsAt (sealed gate payload bytes) (gate + 5 + length payload) (payloads ++ payload ∷ [])
   sealed_ends payloads read small =
@@ -158,18 +172,18 @@ module _ (gate : ℕ) (payload bytes : List ℕ) (within : gate < length bytes) 
       let head = 1 ∷ length_bytes (length payload) ++ payload in
       let rest = drop (gate + length (1 ∷ frame_of payload)) bytes in
       let split : sealed gate payload bytes ≡ (frames payloads ++ head) ++ 0 ∷ rest =
-        ap (λ (l : List ℕ). l ++ (head ++ 0 ∷ []) ++ rest) read.passed
-        ∙ ap (λ (l : List ℕ). l ++ rest) (sym (append_assoc (frames payloads) head (0 ∷ [])))
-        ∙ append_assoc (frames payloads ++ head) (0 ∷ []) rest in
+      ap (λ (l : List ℕ). l ++ (head ++ 0 ∷ []) ++ rest) read.passed
+      ∙ ap (λ (l : List ℕ). l ++ rest) (sym (append_assoc (frames payloads) head (0 ∷ [])))
+      ∙ append_assoc (frames payloads ++ head) (0 ∷ []) rest in
       let size : length (frames payloads ++ head) ≡ next = omega (arith, length-append (frames payloads) head, length_frame payload, size_read bytes gate payloads read) in
       let gate_is : get_or (sealed gate payload bytes) next 0 ≡ 0 = ap (λ (l : List ℕ). get_or l next 0) split ∙ get_or_at (frames payloads ++ head) 0 rest 0 next size in
       record {
         read = record {
           passed = ap (take next) split ∙ take_at (frames payloads ++ head) (0 ∷ rest) next size ∙ sym (frames-push payloads payload);
           within = omega (arith, size_sealed);
-          small = All-push IsSmall payloads payload read.small small
+          small = All-push IsSmall payloads payload read.small small;
         };
-        closed = λ is_open. let clash : 0 ≡ 1 = sym gate_is ∙ is_open in cc
+        closed = λ is_open. let clash : 0 ≡ 1 = sym gate_is ∙ is_open in cc;
       }
 
   -- an image with the gate open and the rest as it was staged
@@ -179,15 +193,15 @@ module _ (gate : ℕ) (payload bytes : List ℕ) (within : gate < length bytes) 
       let le : gate ≤ length staged = omega (arith, staged_within) in
       let size' : length (over gate (1 ∷ []) staged) ≡ length staged = omega (arith, length-over gate (1 ∷ []) staged le, staged_within) in
       let whole : image ≡ over gate (1 ∷ []) staged = ext_get_or 0 image (over gate (1 ∷ []) staged) (omega (arith, size, size')) (λ place lt. elim (cases_lt place gate) [
-      | inl before ↦
-          sym (get_or-take gate image place 0 before) ∙ ap (λ (l : List ℕ). get_or l place 0) torn.before ∙ get_or-take gate staged place 0 before
-          ∙ sym (over_before gate (1 ∷ []) staged le place 0 before)
-      | inr past ↦ elim (cases_eq place gate) [
-        | inl here ↦
-            let gone : place - gate ≡ 0 = omega arith in
-            ap (λ (n : ℕ). get_or image n 0) here ∙ is_open
-            ∙ sym (over_within gate (1 ∷ []) staged le place 0 past (omega arith) ∙ ap (λ (n : ℕ). get_or (1 ∷ []) n 0) gone)
-        | inr beyond ↦ torn.behind place (omega arith) (omega (arith, size)) ∙ sym (over_behind gate (1 ∷ []) staged le place 0 (omega arith))
+        | inl before ↦
+            sym (get_or-take gate image place 0 before) ∙ ap (λ (l : List ℕ). get_or l place 0) torn.before ∙ get_or-take gate staged place 0 before
+            ∙ sym (over_before gate (1 ∷ []) staged le place 0 before)
+        | inr past ↦ elim (cases_eq place gate) [
+          | inl here ↦
+              let gone : place - gate ≡ 0 = omega arith in
+              ap (λ (n : ℕ). get_or image n 0) here ∙ is_open
+              ∙ sym (over_within gate (1 ∷ []) staged le place 0 past (omega arith) ∙ ap (λ (n : ℕ). get_or (1 ∷ []) n 0) gone)
+          | inr beyond ↦ torn.behind place (omega arith) (omega (arith, size)) ∙ sym (over_behind gate (1 ∷ []) staged le place 0 (omega arith))
         ]
       ]) in
       whole ∙ gate_over
@@ -198,17 +212,18 @@ module _ (gate : ℕ) (payload bytes : List ℕ) (within : gate < length bytes) 
       let size : length image ≡ length staged = omega (arith, torn.no_shorter, torn.no_longer, staged_within) in
       let within' : gate < length image = omega (arith, size, staged_within) in
       elim (cases_eq (get_or image gate 0) 1) [
-      | inl is_open ↦
-          let whole : image ≡ sealed gate payload bytes = gate_opened image torn is_open in
-          inr (subst (λ (l : List ℕ). StandsFor l (payloads ++ payload ∷ [])) (sym whole) (inr (gate + 5 + length payload, sealed_ends payloads read small)))
-      | inr closed ↦ inl (inr (gate, ends_kept bytes image gate payloads read (torn.before ∙ staged_before) within' closed))
+        | inl is_open ↦
+            let whole : image ≡ sealed gate payload bytes = gate_opened image torn is_open in
+            inr (subst (λ (l : List ℕ). StandsFor l (payloads ++ payload ∷ [])) (sym whole) (inr (gate + 5 + length payload, sealed_ends payloads read small)))
+        | inr closed ↦ inl (inr (gate, ends_kept bytes image gate payloads read (torn.before ∙ staged_before) within' closed))
       ]
+
   -- an image while the frame is written behind a gate that is not open
   pub frame_images : (payloads : List (List ℕ)) → IsReadTo bytes gate payloads → get_or bytes gate 0 ≢ 1 → (size : ℕ) (image : List ℕ) → TornFrom (gate + 1) size bytes image → EndsAt image gate payloads
   frame_images payloads read closed size image torn =
       let within' : gate < length image = omega (arith, torn.no_shorter) in
       let same : take gate image ≡ take gate bytes =
-        sym (take-take gate (gate + 1) image (omega arith)) ∙ ap (take gate) torn.before ∙ take-take gate (gate + 1) bytes (omega arith) in
+      sym (take-take gate (gate + 1) image (omega arith)) ∙ ap (take gate) torn.before ∙ take-take gate (gate + 1) bytes (omega arith) in
       let gate_same : get_or image gate 0 ≡ get_or bytes gate 0 =
-        sym (get_or-take (gate + 1) image gate 0 (omega arith)) ∙ ap (λ (l : List ℕ). get_or l gate 0) torn.before ∙ get_or-take (gate + 1) bytes gate 0 (omega arith) in
+      sym (get_or-take (gate + 1) image gate 0 (omega arith)) ∙ ap (λ (l : List ℕ). get_or l gate 0) torn.before ∙ get_or-take (gate + 1) bytes gate 0 (omega arith) in
       ends_kept bytes image gate payloads read same within' (λ is_open. closed (sym gate_same ∙ is_open))

@@ -35,7 +35,7 @@ same_first p q xs ys small_p small_q is =
     let sizes : length p ≡ length q = sym (read_again (length p) small_p) ∙ ap length_from fronts ∙ read_again (length q) small_q in
     let rests : p ++ xs ≡ q ++ ys = sym (rest_of p xs) ∙ ap (drop 4) is ∙ rest_of q ys in (
       sym (take_at p xs (length q) sizes) ∙ ap (take (length q)) rests ∙ take_at q ys (length q) refl,
-      sym (drop_at p xs (length q) sizes) ∙ ap (drop (length q)) rests ∙ drop_at q ys (length q) refl
+      sym (drop_at p xs (length q) sizes) ∙ ap (drop (length q)) rests ∙ drop_at q ys (length q) refl,
     )
 
 tail_of : (x y : ℕ) (xs ys : List ℕ) → x ∷ xs ≡ y ∷ ys → xs ≡ ys
@@ -49,7 +49,7 @@ same_lists (p ∷ ps) [] r s small_p small_q is closed_r closed_s = absurd (clos
 same_lists (p ∷ ps) (q ∷ qs) r s small_p small_q is closed_r closed_s =
     let whole : 1 ∷ behind p (frames ps ++ r) ≡ 1 ∷ behind q (frames qs ++ s) = sym (regroup p ps r) ∙ is ∙ regroup q qs s in
     let same = same_first p q (frames ps ++ r) (frames qs ++ s) (All-head IsSmall p ps small_p) (All-head IsSmall q qs small_q)
-      (tail_of 1 1 (behind p (frames ps ++ r)) (behind q (frames qs ++ s)) whole) in
+    (tail_of 1 1 (behind p (frames ps ++ r)) (behind q (frames qs ++ s)) whole) in
     let rest : ps ≡ qs = same_lists ps qs r s (All-tail IsSmall p ps small_p) (All-tail IsSmall q qs small_q) same.1 closed_r closed_s in
     ap (λ (l : List ℕ). l ∷ ps) same.0 ∙ ap (λ (l : List (List ℕ)). q ∷ l) rest
 
@@ -65,8 +65,8 @@ at_most_one image payloads others (inl none) stands = none.1 ∙ sym (short_none
 at_most_one image payloads others (inr ends) (inl none) = short_none image payloads none.0 (inr ends) ∙ sym none.1
 at_most_one image payloads others (inr ends) (inr ends') =
     same_lists payloads others (drop ends.0 image) (drop ends'.0 image) ends.1.read.small ends'.1.read.small
-      (sym (split_at image ends.0 payloads ends.1.read) ∙ split_at image ends'.0 others ends'.1.read)
-      (λ is_open. ends.1.closed (sym (gate_of image ends.0) ∙ is_open)) (λ is_open. ends'.1.closed (sym (gate_of image ends'.0) ∙ is_open))
+    (sym (split_at image ends.0 payloads ends.1.read) ∙ split_at image ends'.0 others ends'.1.read)
+    (λ is_open. ends.1.closed (sym (gate_of image ends.0) ∙ is_open)) (λ is_open. ends'.1.closed (sym (gate_of image ends'.0) ∙ is_open))
 
 -- an open gate that leads nowhere, and frames to a gate that is not open, are not the same bytes
 no_both : (ps qs : List (List ℕ)) (d r : List ℕ) → All IsSmall ps → All IsSmall qs → frames ps ++ d ≡ frames qs ++ r → get_or r 0 0 ≢ 1 → 0 < length r
@@ -76,19 +76,19 @@ no_both (p ∷ ps) [] d r small_p small_q is closed some nowhere = closed (ap (�
 no_both [] (q ∷ qs) d r small_p small_q is closed some nowhere =
     let whole : d ≡ 1 ∷ behind q (frames qs ++ r) = is ∙ regroup q qs r in
     let size : length_at d 0 ≡ length q =
-      ap (λ (l : List ℕ). length_from (take 4 (drop 1 l))) whole ∙ ap length_from (front_of q (frames qs ++ r)) ∙ read_again (length q) (All-head IsSmall q qs small_q) in
+    ap (λ (l : List ℕ). length_from (take 4 (drop 1 l))) whole ∙ ap length_from (front_of q (frames qs ++ r)) ∙ read_again (length q) (All-head IsSmall q qs small_q) in
     let long : length d ≡ 1 + (4 + (length q + length (frames qs ++ r))) =
-      omega (arith, ap length whole, length-append (length_bytes (length q)) (q ++ (frames qs ++ r)), length-length_bytes (length q), length-append q (frames qs ++ r)) in
+    omega (arith, ap length whole, length-append (length_bytes (length q)) (q ++ (frames qs ++ r)), length-length_bytes (length q), length-append q (frames qs ++ r)) in
     let more : length (frames qs ++ r) ≡ length (frames qs) + length r = length-append (frames qs) r in
     let small : length q ≤ 20000000 = All-head IsSmall q qs small_q in
     elim nowhere.nowhere [
-    | inl short ↦ omega (arith, short, long)
-    | inr rest ↦ elim rest [ | inl great ↦ omega (arith, great, size, small) | inr past ↦ omega (arith, past, size, long, more) ]
+      | inl short ↦ omega (arith, short, long)
+      | inr rest ↦ elim rest [ inl great ↦ omega (arith, great, size, small) | inr past ↦ omega (arith, past, size, long, more) ]
     ]
 no_both (p ∷ ps) (q ∷ qs) d r small_p small_q is closed some nowhere =
     let whole : 1 ∷ behind p (frames ps ++ d) ≡ 1 ∷ behind q (frames qs ++ r) = sym (regroup p ps d) ∙ is ∙ regroup q qs r in
     let same = same_first p q (frames ps ++ d) (frames qs ++ r) (All-head IsSmall p ps small_p) (All-head IsSmall q qs small_q)
-      (tail_of 1 1 (behind p (frames ps ++ d)) (behind q (frames qs ++ r)) whole) in
+    (tail_of 1 1 (behind p (frames ps ++ d)) (behind q (frames qs ++ r)) whole) in
     no_both ps qs d r (All-tail IsSmall p ps small_p) (All-tail IsSmall q qs small_q) same.1 closed some nowhere
 
 -- what is said of the gate at a place is said of the bytes from there on
@@ -100,8 +100,8 @@ nowhere_from image gate within nowhere =
       is_open = gate_of image gate ∙ nowhere.is_open;
       nowhere = elim nowhere.nowhere [
         | inl short ↦ inl (omega (arith, short, size))
-        | inr rest ↦ elim rest [ | inl great ↦ inr (inl (omega (arith, great, there))) | inr past ↦ inr (inr (omega (arith, past, there, size))) ]
-      ]
+        | inr rest ↦ elim rest [ inl great ↦ inr (inl (omega (arith, great, there))) | inr past ↦ inr (inr (omega (arith, past, there, size))) ]
+      ];
     }
 
 -- an image whose open gate leads nowhere stands for no list
@@ -109,6 +109,6 @@ pub none_at_all : (image : List ℕ) (gate : ℕ) (payloads others : List (List 
 none_at_all image gate payloads others long read nowhere (inl none) = absurd (omega (arith, none.0))
 none_at_all image gate payloads others long read nowhere (inr ends) =
     no_both payloads others (drop gate image) (drop ends.0 image) read.small ends.1.read.small
-      (sym (split_at image gate payloads read) ∙ split_at image ends.0 others ends.1.read)
-      (λ is_open. ends.1.closed (sym (gate_of image ends.0) ∙ is_open))
-      (omega (arith, length-drop ends.0 image, ends.1.read.within)) (nowhere_from image gate read.within nowhere)
+    (sym (split_at image gate payloads read) ∙ split_at image ends.0 others ends.1.read)
+    (λ is_open. ends.1.closed (sym (gate_of image ends.0) ∙ is_open))
+    (omega (arith, length-drop ends.0 image, ends.1.read.within)) (nowhere_from image gate read.within nowhere)

@@ -1,5 +1,6 @@
 -- What each exit of an `open` leaves.
 use Rattle.std.proofs.Common.{◌≡◌, ◌≢◌, ◌⊎◌, inl, inr, ℕ, ◌+◌, ◌-◌, ◌<◌, ◌≤◌, max, Bool, true, false, nat_le, List, [], ◌∷◌, ◌++◌, length, take, drop, Option, Some, None, option_map, is_some, IfSome, refl, sym, ◌∙◌, ap, subst, arith}
+use Rattle.std.specs.Option.{ForSome}
 use Rattle.std.proofs.lemmas.List.{drop_all}
 use Rattle.std.proofs.lemmas.List.Elements.{All-nil}
 use Rattle.std.proofs.lemmas.Bool.{cases_lt}
@@ -42,7 +43,7 @@ opened_begins bytes = record {
     | inl long ↦ omega (arith, ap length (opened_long bytes long))
     | inr short ↦ omega (arith, ap length (opened_short bytes short))
   ];
-  small = All-nil IsSmall
+  small = All-nil IsSmall;
 }
 
 pub opened_begun : (old : Option DiskState) → IfSome old (λ disk. IsReadTo (opened disk.bytes) 0 [])
@@ -61,8 +62,8 @@ opened_keeps : (disk : DiskState) → KeepsPayloads disk (at_rest (opened disk.b
 opened_keeps disk payloads stands image is =
     let whole : image ≡ opened disk.bytes = rest_images (opened disk.bytes) image is in
     elim (cases_lt 1 (length disk.bytes)) [
-    | inl long ↦ subst (λ (l : List ℕ). StandsFor l payloads) (sym (whole ∙ opened_long disk.bytes long)) stands
-    | inr short ↦ short_keeps disk.bytes image payloads (omega arith) (omega (arith, ap length (whole ∙ opened_short disk.bytes (omega arith)))) stands
+      | inl long ↦ subst (λ (l : List ℕ). StandsFor l payloads) (sym (whole ∙ opened_long disk.bytes long)) stands
+      | inr short ↦ short_keeps disk.bytes image payloads (omega arith) (omega (arith, ap length (whole ∙ opened_short disk.bytes (omega arith)))) stands
     ]
 
 pub opened_kept : (old : Option DiskState) → IfSome old (λ disk. KeepsPayloads disk (at_rest (opened disk.bytes)))
@@ -90,10 +91,10 @@ pub moments_sync : (past past' : Past) (old new : Option DiskState) → (new ≡
 moments_sync past past' None new synced time = tt
 moments_sync past past' (Some disk) new (inl done) time =
     subst (λ (s : Option DiskState). AtEachMoment past past' s (Kept disk)) (sym done)
-      (moments_call (Kept disk) past past' disk (at_rest disk.bytes) (subst (λ (s : Option DiskState). Elapses past past' (Some disk) s) done time) (inl refl) (inr (rest_keeps disk)))
+    (moments_call (Kept disk) past past' disk (at_rest disk.bytes) (subst (λ (s : Option DiskState). Elapses past past' (Some disk) s) done time) (inl refl) (inr (rest_keeps disk)))
 moments_sync past past' (Some disk) new (inr same) time =
     subst (λ (s : Option DiskState). AtEachMoment past past' s (Kept disk)) (sym same)
-      (moments_call (Kept disk) past past' disk disk (subst (λ (s : Option DiskState). Elapses past past' (Some disk) s) same time) (inl refl) (inl refl))
+    (moments_call (Kept disk) past past' disk disk (subst (λ (s : Option DiskState). Elapses past past' (Some disk) s) same time) (inl refl) (inl refl))
 
 -- and then the first gate is made
 pub moments_made : (past past1 past2 : Past) (old mid new : Option DiskState) → mid ≡ option_map after_sync old → Elapses past past1 old mid
@@ -107,8 +108,8 @@ moments_made past past1 past2 (Some disk) mid (Some t) is time short two told =
     let short' : length disk.bytes ≤ 1 = subst (λ (s : Option DiskState). IfSome s (λ d. length d.bytes ≤ 1)) is short in
     let two' : AtEachMoment past1 past2 (Some t) (WhileWriting 0 (0 ∷ []) synced) = subst (λ (s : Option DiskState). IfSome s (λ d. AtEachMoment past1 past2 (Some t) (WhileWriting 0 (0 ∷ []) d))) is two in
     moments_join (Kept disk) past past1 past2 synced t
-      (moments_call (Kept disk) past past1 disk synced time' (inl refl) (inr (rest_keeps disk)))
-      (moments_weaker (WhileWriting 0 (0 ∷ []) synced) (Kept disk) (λ d while. inr (made_keeps disk short' d while)) past1 past2 t two')
+    (moments_call (Kept disk) past past1 disk synced time' (inl refl) (inr (rest_keeps disk)))
+    (moments_weaker (WhileWriting 0 (0 ∷ []) synced) (Kept disk) (λ d while. inr (made_keeps disk short' d while)) past1 past2 t two')
 
 -- where nothing was pending, as it was is no exception
 pub moments_at_rest : (past past' : Past) (old new : Option DiskState) → Moments past past' old new → IfSome old (λ disk. IsAtRest disk → AtEachMoment past past' new (λ t. KeepsPayloads disk t))
@@ -125,3 +126,10 @@ moments_at_rest past past' (Some disk) (Some t) moments = λ rest.
 pub short_if : (state : Option DiskState) (size : ℕ) → size ≤ 1 → IfSome state (λ disk. size ≡ length disk.bytes) → IfSome state (λ disk. length disk.bytes ≤ 1)
 short_if None size short is = tt
 short_if (Some disk) size short is = omega (arith, is)
+
+-- the first gate stands on a disk that was opened
+pub opened_ready : (old new : Option DiskState) → new ≡ option_map (λ disk. at_rest (opened disk.bytes)) old → ForSome new (λ disk. IsAtRest disk × (0 < length disk.bytes))
+opened_ready None new is disk told = absurd (let clash : Some disk ≡ None = sym told ∙ is in cc)
+opened_ready (Some old) new is disk told =
+    let same : disk ≡ at_rest (opened old.bytes) = let both : Some disk ≡ Some (at_rest (opened old.bytes)) = sym told ∙ is in cc in
+    subst (λ (d : DiskState). IsAtRest d × (0 < length d.bytes)) (sym same) (refl, (opened_begins old.bytes).within)

@@ -20,7 +20,7 @@ rest_reads : (bytes : List ℕ) → ReadsAs (at_rest bytes) bytes
 rest_reads bytes = record {
   reads = refl;
   marked = length-replicate (length bytes) false;
-  image = record { no_shorter = omega arith; no_longer = omega (arith, length-replicate (length bytes) false); unwritten = λ place within is. refl }
+  image = record { no_shorter = omega arith; no_longer = omega (arith, length-replicate (length bytes) false); unwritten = λ place within is. refl };
 }
 
 -- what a crash leaves of a disk on which a write was begun or done
@@ -28,13 +28,16 @@ kept_torn : (at : ℕ) (from bytes : List ℕ) (keep : Keep) → at ≤ length b
 kept_torn at from bytes keep le =
     let reads = reads_write (at_rest bytes) bytes (rest_reads bytes) at from le in
     torn_images at (length from) bytes le (after_write at from (at_rest bytes)) (kept keep (after_write at from (at_rest bytes)))
-      (write_is_torn at from (at_rest bytes) le) (kept_image keep (after_write at from (at_rest bytes)) reads.image reads.marked)
+    (write_is_torn at from (at_rest bytes) le) (kept_image keep (after_write at from (at_rest bytes)) reads.image reads.marked)
 
 module _ (gate : ℕ) (payload bytes : List ℕ) (within : gate < length bytes) (payloads : List (List ℕ)) (read : IsReadTo bytes gate payloads) (closed : get_or bytes gate 0 ≢ 1) (small : IsSmall payload) where
   -- the gate stays closed while the frame is written
   frame_stopped : (keep : Keep) → StandsFor (kept keep (framed gate payload (at_rest bytes))) payloads
-  frame_stopped keep = inr (gate, frame_images gate payload bytes within payloads read closed (length (frame_of payload)) (kept keep (framed gate payload (at_rest bytes)))
-      (kept_torn (gate + 1) (frame_of payload) bytes keep (omega arith)))
+  frame_stopped keep = inr (
+    gate,
+    frame_images gate payload bytes within payloads read closed (length (frame_of payload)) (kept keep (framed gate payload (at_rest bytes)))
+        (kept_torn (gate + 1) (frame_of payload) bytes keep (omega arith)),
+  )
 
   abbrev behind : List ℕ
   behind = staged gate payload bytes within
@@ -83,8 +86,8 @@ module _ (gate : ℕ) (payload bytes : List ℕ) (within : gate < length bytes) 
   gate_stopped call (Byte byte) late =
       let test : nat_le 3 call ≡ true = grind (arith, nat_tests) in
       elim (cases_eq byte 1) [
-      | inl one ↦ let same : (byte == 1) ≡ true = grind (arith, nat_tests) in rw (test, same) (with_open (Byte byte) (byte_is byte ∙ one))
-      | inr other ↦ let differs : (byte == 1) ≡ false = grind (arith, nat_tests) in rw (test, differs) (with_closed (Byte byte) (λ is_open. other (sym (byte_is byte) ∙ is_open)))
+        | inl one ↦ let same : (byte == 1) ≡ true = grind (arith, nat_tests) in rw (test, same) (with_open (Byte byte) (byte_is byte ∙ one))
+        | inr other ↦ let differs : (byte == 1) ≡ false = grind (arith, nat_tests) in rw (test, differs) (with_closed (Byte byte) (λ is_open. other (sym (byte_is byte) ∙ is_open)))
       ]
 
   early : (call : ℕ) (keep : Keep) → call < 3 → is_kept call keep ≡ false
@@ -103,4 +106,4 @@ pub stopped_stands : (call gate : ℕ) (keep : Keep) (payload : List ℕ) (paylo
     → IsReadTo disk.bytes gate payloads → IsSmall payload → StandsFor (kept keep (stopped_at call gate payload disk)) (if is_kept call keep then payloads ++ payload ∷ [] else payloads)
 stopped_stands call gate keep payload payloads disk some few ready read small =
     subst (λ (d : DiskState). StandsFor (kept keep (stopped_at call gate payload d)) (if is_kept call keep then payloads ++ payload ∷ [] else payloads)) (sym ready.at_rest)
-      (stopped gate payload disk.bytes ready.within payloads read ready.closed small call keep)
+    (stopped gate payload disk.bytes ready.within payloads read ready.closed small call keep)

@@ -20,7 +20,7 @@ module _ (at : ℕ) (bytes : List ℕ) where
   write_failed past past' (Some old) new torn time =
       let time' : Elapses past past' (Some old) (Some torn.0) = subst (λ (s : Option DiskState). Elapses past past' (Some old) s) torn.1 time in
       subst (λ (s : Option DiskState). AtEachMoment past past' s (WhileWriting at bytes old)) (sym torn.1)
-        (moments_call (WhileWriting at bytes old) past past' old torn.0 time' (inl refl) (inr (inl torn.2)))
+      (moments_call (WhileWriting at bytes old) past past' old torn.0 time' (inl refl) (inr (inl torn.2)))
 
   two_calls : (past past1 past2 : Past) (old : DiskState) (new : DiskState) → at ≤ length old.bytes
       → Elapses past past1 (Some old) (Some (after_write at bytes old)) → Elapses past1 past2 (Some (after_write at bytes old)) (Some new)
@@ -29,8 +29,8 @@ module _ (at : ℕ) (bytes : List ℕ) where
       let mid = after_write at bytes old in
       let torn : WhileWriting at bytes old mid = inr (inl (write_is_torn at bytes old le)) in
       moments_join (WhileWriting at bytes old) past past1 past2 mid new
-        (moments_call (WhileWriting at bytes old) past past1 old mid time (inl refl) torn)
-        (moments_call (WhileWriting at bytes old) past1 past2 mid new time' torn here)
+      (moments_call (WhileWriting at bytes old) past past1 old mid time (inl refl) torn)
+      (moments_call (WhileWriting at bytes old) past1 past2 mid new time' torn here)
 
   -- a write that was done, and a sync that was done or not
   pub write_synced : (past past1 past2 : Past) (old mid new : Option DiskState) → ForSome old (λ disk. at ≤ length disk.bytes)
@@ -41,14 +41,14 @@ module _ (at : ℕ) (bytes : List ℕ) where
       let written : Elapses past past1 (Some old) (Some (after_write at bytes old)) = subst (λ (s : Option DiskState). Elapses past past1 (Some old) s) is time in
       let then : Elapses past1 past2 (Some (after_write at bytes old)) new = subst (λ (s : Option DiskState). Elapses past1 past2 s new) is time' in
       elim synced [
-      | inl done ↦
-          let new_is : new ≡ Some (after_sync (after_write at bytes old)) = done ∙ ap (option_map after_sync) is in
-          subst (λ (s : Option DiskState). AtEachMoment past past2 s (WhileWriting at bytes old)) (sym new_is)
+        | inl done ↦
+            let new_is : new ≡ Some (after_sync (after_write at bytes old)) = done ∙ ap (option_map after_sync) is in
+            subst (λ (s : Option DiskState). AtEachMoment past past2 s (WhileWriting at bytes old)) (sym new_is)
             (two_calls past past1 past2 old (after_sync (after_write at bytes old)) (le old refl) written
-              (subst (λ (s : Option DiskState). Elapses past1 past2 (Some (after_write at bytes old)) s) new_is then) (inr (inr refl)))
-      | inr same ↦
-          let new_is : new ≡ Some (after_write at bytes old) = same ∙ is in
-          subst (λ (s : Option DiskState). AtEachMoment past past2 s (WhileWriting at bytes old)) (sym new_is)
+            (subst (λ (s : Option DiskState). Elapses past1 past2 (Some (after_write at bytes old)) s) new_is then) (inr (inr refl)))
+        | inr same ↦
+            let new_is : new ≡ Some (after_write at bytes old) = same ∙ is in
+            subst (λ (s : Option DiskState). AtEachMoment past past2 s (WhileWriting at bytes old)) (sym new_is)
             (two_calls past past1 past2 old (after_write at bytes old) (le old refl) written
-              (subst (λ (s : Option DiskState). Elapses past1 past2 (Some (after_write at bytes old)) s) new_is then) (inr (inl (write_is_torn at bytes old (le old refl)))))
+            (subst (λ (s : Option DiskState). Elapses past1 past2 (Some (after_write at bytes old)) s) new_is then) (inr (inl (write_is_torn at bytes old (le old refl)))))
       ]

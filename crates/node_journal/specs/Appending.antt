@@ -32,7 +32,7 @@ framed gate payload disk = after_write (gate + 1) (frame_of payload) disk
 -- write of the gate, sync. A sync that fails counts as none.
 abbrev pub stopped_at : ℕ → ℕ → List ℕ → DiskState → DiskState
 stopped_at call gate payload disk =
-  if nat_le call 2 then framed gate payload disk else after_write gate (1 ∷ []) (after_sync (framed gate payload disk))
+    if nat_le call 2 then framed gate payload disk else after_write gate (1 ∷ []) (after_sync (framed gate payload disk))
 
 -- no one of so many calls is to fail
 abbrev pub lasts : ℕ → Failing → Bool

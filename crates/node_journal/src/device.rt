@@ -21,7 +21,7 @@ pub(crate) fn write_durably<D: Disk>(disk: &mut D, at: u64, bytes: &[u8]) -> Res
     ensures answer { IfSome (D.outlook disk.old) (λ o. is_ok result ≡ (nat_le (at + length bytes.now) o.room && lasts 2 o.failing)) }
     ensures done { IfSome (D.outlook disk.old) (λ o. OnErr result (D.state disk.new ≡
         (if nat_le (at + length bytes.now) o.room && is_done o.failing
-         then option_map (after_write at bytes.now) (D.state disk.old) else D.state disk.old))) }
+        then option_map (after_write at bytes.now) (D.state disk.old) else D.state disk.old))) }
     ensures next { OnOk result (D.outlook disk.new ≡ option_map (λ o. outlook_next (outlook_next o)) (D.outlook disk.old)) }
     ensures quiet { IfSome (D.outlook disk.old) (λ o. o.failing ≡ never → D.outlook disk.new ≡ Some o) }
     ensures cause { HasCause (D.faults disk.old) (D.faults disk.new) result }

@@ -42,6 +42,8 @@ impl Journal {
             EndsAt (sealed self.gate frame.now d.bytes) (self.gate + 5 + length frame.now) (payloads ++ frame.now ∷ []))) }
         ensures handed { IfOk result (λ journal. journal ≡ record { gate = self.gate + 5 + length frame.now; limit = self.limit }) }
 
+        ensures ready { IfOk result (λ journal. ForSome (D.state disk.new) (λ d. IsReady d journal.gate)) }
+
         // At every moment each image stands for the payloads before, or for them and the new one.
         ensures any_moment { IfSome (D.state disk.old) (λ d. (payloads : List (List ℕ)) → IsReadTo d.bytes self.gate payloads →
             AtEachMoment (D.past disk.old) (D.past disk.new) (D.state disk.new) (λ t. EachImage t (IsBeforeOrAfter payloads frame.now))) }
@@ -57,7 +59,7 @@ impl Journal {
             is_ok result ≡ (nat_le (end_of self.gate frame.now) o.room && lasts 4 o.failing)) }
         ensures failed { IfSome (D.outlook disk.old) (λ o. IsErrOf result JournalFault.DiskFailed → D.state disk.new ≡
             (if nat_le (end_of self.gate frame.now) o.room
-             then option_map (failed_state o.failing self.gate frame.now) (D.state disk.old) else D.state disk.old)) }
+            then option_map (failed_state o.failing self.gate frame.now) (D.state disk.old) else D.state disk.old)) }
         ensures calls { OnOk result (D.outlook disk.new ≡ option_map four_calls_later (D.outlook disk.old)) }
         ensures quiet { IfSome (D.outlook disk.old) (λ o. o.failing ≡ never → D.outlook disk.new ≡ Some o) }
     {

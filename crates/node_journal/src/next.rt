@@ -4,7 +4,7 @@ ghost use Rattle.outside_io.specs.Causes.{Rose};
 ghost use Rattle.disk_store.specs.Outlook.{never};
 ghost use Rattle.node_journal.specs.Frames.{IsReadTo};
 ghost use Rattle.node_journal.specs.Heads.{HasLength};
-ghost use Rattle.node_journal.specs.Reading.{Finds, ReadsOn};
+ghost use Rattle.node_journal.specs.Reading.{Finds, ReadsOn, LeavesReady};
 
 use crate::framed::PAYLOAD_LIMIT;
 use crate::head::{Head, read_head};
@@ -21,6 +21,8 @@ impl Reading {
 
         ensures found { IfSome (D.state disk.old) (λ d. Finds d.bytes self result) }
         ensures read_on { IfSome (D.state disk.old) (λ d. (payloads : List (List ℕ)) → IsReadTo d.bytes self.gate payloads → ReadsOn d.bytes payloads result) }
+
+        ensures ready { IfOk result (λ found. ForSome (D.state disk.new) (λ d. LeavesReady found d)) }
 
         ensures same { D.state disk.new ≡ D.state disk.old }
         ensures same_past { D.past disk.new ≡ D.past disk.old }
@@ -41,7 +43,12 @@ impl Reading {
     }
 
     /// Reads the frame whose length stands behind the gate.
-    fn read_frame<D: Disk>(self, alloc: Global, disk: &mut D, size: u64) -> Result<Found, JournalFault>
+    fn read_frame<D: Disk>(
+        self,
+        alloc: Global,
+        disk: &mut D,
+        size: u64,
+    ) -> Result<Found, JournalFault>
         requires { ForSome (D.state disk.old) (λ d. HasLength d.bytes self.gate size) }
         ensures found { IfSome (D.state disk.old) (λ d. Finds d.bytes self result) }
         ensures same { D.state disk.new ≡ D.state disk.old }
@@ -74,7 +81,12 @@ impl Reading {
 }
 
 /// Reads so many bytes; `None` where the disk gives fewer.
-fn read_payload<D: Disk>(alloc: Global, disk: &mut D, at: u64, size: usize) -> Result<Option<Bytes>, JournalFault>
+fn read_payload<D: Disk>(
+    alloc: Global,
+    disk: &mut D,
+    at: u64,
+    size: usize,
+) -> Result<Option<Bytes>, JournalFault>
     ensures bytes { IfOk result (λ found. IfSome (D.state disk.old) (λ d. at + size ≤ length d.bytes → found ≡ Some (take size (drop at d.bytes)))) }
     ensures size { IfOk result (λ found. IfSome found (λ payload. length payload ≡ size)) }
     ensures same { D.state disk.new ≡ D.state disk.old }

@@ -1,4 +1,5 @@
-ghost use Rattle.std.specs.Prelude.{◌≡◌, ◌≢◌, ◌⊎◌, ◌^◌, ◌≤◌, [], Some, option_map, IfSome, IfOk, IfErr, IsErr, OnOk, IsErrOf};
+ghost use Rattle.std.specs.Prelude.{◌≡◌, ◌≢◌, ◌⊎◌, ◌^◌, ◌<◌, ◌≤◌, [], Some, length, option_map, IfSome, IfOk, IfErr, IsErr, OnOk, IsErrOf};
+ghost use Rattle.std.specs.Option.{ForSome};
 ghost use Rattle.outside_io.specs.Causes.{HasCause, Rose};
 ghost use Rattle.disk_store.specs.Disk.{IsAtRest, at_rest};
 ghost use Rattle.disk_store.specs.Outlook.{never};
@@ -17,7 +18,7 @@ const CLOSED: [u8; 1] = [0];
 impl Journal {
     /// Opens the journal of a disk, and makes it where there are at most one byte. The limit is its greatest
     /// length, in bytes. It takes no memory.
-    #[tactic(auto, using(crate::proofs::Opens::opened_kept, crate::proofs::Opens::opened_begun, crate::proofs::Opens::moments_at_rest))]
+    #[tactic(auto, using(crate::proofs::Opens::opened_kept, crate::proofs::Opens::opened_begun, crate::proofs::Opens::moments_at_rest, crate::proofs::Opens::opened_ready))]
     pub fn open<D: Disk>(disk: &mut D, limit: u64) -> Result<Reading, JournalFault>
         requires some { 1 ≤ limit }
         requires bounded { limit ≤ 2 ^ 40 }
@@ -26,6 +27,7 @@ impl Journal {
         ensures opened { OnOk result (D.state disk.new ≡ option_map (λ d. at_rest (opened d.bytes)) (D.state disk.old)) }
         ensures begins { OnOk result (IfSome (D.state disk.old) (λ d. IsReadTo (opened d.bytes) 0 [])) }
         ensures kept { OnOk result (IfSome (D.state disk.old) (λ d. KeepsPayloads d (at_rest (opened d.bytes)))) }
+        ensures ready { OnOk result (ForSome (D.state disk.new) (λ d. IsAtRest d × (0 < length d.bytes))) }
         ensures reading { IfOk result (λ reading. reading ≡ record { gate = 0; limit = limit }) }
 
         // At every moment the disk is as it was before the first sync, or each image stands for what it stood for;
