@@ -16,3 +16,6 @@ pub use fault::JournalFault;
 pub use framed::Framed;
 pub use journal::Journal;
 pub use reading::{Found, Reading};
+
+#[cfg(test)]
+mod tests;
