@@ -58,10 +58,10 @@ kept_image All disk image marked = image
 kept_image Nothing disk image marked = record {
   no_shorter = omega arith;
   no_longer = omega (arith, image.no_shorter);
-  unwritten = λ place within is. refl
+  unwritten = λ place within is. refl;
 }
 kept_image (Byte byte) disk image marked = record {
   no_shorter = omega (arith, length-fill_written byte disk.written disk.bytes, image.no_shorter);
   no_longer = omega (arith, length-fill_written byte disk.written disk.bytes);
-  unwritten = λ place within is. fill_kept byte place disk.written disk.bytes is ∙ image.unwritten place within is
+  unwritten = λ place within is. fill_kept byte place disk.written disk.bytes is ∙ image.unwritten place within is;
 }

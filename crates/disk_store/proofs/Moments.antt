@@ -25,7 +25,7 @@ module _ (P : DiskState → Type 0) where
   moments_start (Some past) disk here = record {
     goes_on = ([], ap Some (sym (append-nil past)));
     each = let none : drop (length past) past ≡ [] = drop_all (length past) past (omega arith) in
-      subst (λ (disks : List DiskState). All P (disks ++ disk ∷ [])) (sym none) (only_one disk here)
+        subst (λ (disks : List DiskState). All P (disks ++ disk ∷ [])) (sym none) (only_one disk here);
   }
 
   pushed_call : (past past' : Past) (before after : DiskState) → past' ≡ pushed past (Some before) → P before → P after → AtEachMoment past past' (Some after) P
@@ -35,7 +35,7 @@ module _ (P : DiskState → Type 0) where
       let one : drop (length past) (past ++ before ∷ []) ≡ before ∷ [] = drop_at past (before ∷ []) (length past) refl in
       let both : AtEachMoment (Some past) (Some (past ++ before ∷ [])) (Some after) P = record {
         goes_on = (before ∷ [], refl);
-        each = subst (λ (disks : List DiskState). All P (disks ++ after ∷ [])) (sym one) (All-cons P before (after ∷ []) here (only_one after there))
+        each = subst (λ (disks : List DiskState). All P (disks ++ after ∷ [])) (sym one) (All-cons P before (after ∷ []) here (only_one after there));
       } in
       subst (λ (p : Past). AtEachMoment (Some past) p (Some after) P) (sym is) both
 
@@ -57,7 +57,7 @@ module _ (P : DiskState → Type 0) where
       let both : All P ((past ++ later) ++ after ∷ []) = subst (All P) (sym (append_assoc past later (after ∷ []))) (All-append P past (later ++ after ∷ []) front back) in
       let told : AtEachMoment (Some first) (Some (first ++ (past ++ later))) (Some after) P = record {
         goes_on = (past ++ later, refl);
-        each = subst (λ (disks : List DiskState). All P (disks ++ after ∷ [])) (sym whole) both
+        each = subst (λ (disks : List DiskState). All P (disks ++ after ∷ [])) (sym whole) both;
       } in
       subst (λ (p : Past). AtEachMoment (Some first) p (Some after) P) (sym (is ∙ ap Some (append_assoc first past later))) told
 
@@ -77,7 +77,7 @@ module _ (P : DiskState → Type 0) where
       joined later more is told all each =
           let each' : All P (states_since (Some past) (Some (past ++ more)) after) = subst (λ (p : Past). All P (states_since (Some past) p after)) told each in
           let each'' : All P (drop (length (first ++ later)) ((first ++ later) ++ more) ++ after ∷ []) =
-            subst (λ (p : List DiskState). All P (drop (length p) (p ++ more) ++ after ∷ [])) is each' in
+          subst (λ (p : List DiskState). All P (drop (length p) (p ++ more) ++ after ∷ [])) is each' in
           join_told first later more past' before after (told ∙ ap (λ (p : List DiskState). Some (p ++ more)) is) all each''
 
 -- what holds at each moment is all that was asked

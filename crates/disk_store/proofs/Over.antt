@@ -26,8 +26,8 @@ over-over at ys zs xs le =
     let fore : take (at + length ys) (over at ys xs) ≡ take at xs ++ ys = take_to-over at ys xs le in
     let sizes : at + length ys + length zs ≡ at + length (ys ++ zs) = omega arith in
     let back : drop (at + length ys + length zs) (over at ys xs) ≡ drop (at + length (ys ++ zs)) xs =
-      sym (drop-drop (length zs) (at + length ys) (over at ys xs)) ∙ ap (λ l. drop (length zs) l) (drop-over at ys xs le) ∙ drop-drop (length zs) (at + length ys) xs
-      ∙ ap (λ (n : ℕ). drop n xs) sizes in
+    sym (drop-drop (length zs) (at + length ys) (over at ys xs)) ∙ ap (λ l. drop (length zs) l) (drop-over at ys xs le) ∙ drop-drop (length zs) (at + length ys) xs
+    ∙ ap (λ (n : ℕ). drop n xs) sizes in
     ap (λ l. l ++ zs ++ drop (at + length ys + length zs) (over at ys xs)) fore
     ∙ ap (λ l. take at xs ++ ys ++ zs ++ l) back
     ∙ ap (λ l. l ++ drop (at + length (ys ++ zs)) xs) (append_assoc (take at xs) ys zs)

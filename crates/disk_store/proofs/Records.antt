@@ -74,7 +74,7 @@ module _ (disk : DiskState) (bytes : List ℕ) (reads : ReadsAs disk bytes) wher
   marked_there : (at : ℕ) (from : List ℕ) (place : ℕ) → at ≤ length bytes → at ≤ place → place < at + length from → get_or (over at (marks_of from) disk.written) place true ≡ false → ⊥
   marked_there at from place le past inside is =
       let there : get_or (over at (marks_of from) disk.written) place true ≡ true =
-        over_within at (marks_of from) disk.written (le_marks at le) place true past (omega (arith, size from)) ∙ get_or-replicate (length from) (place - at) true true (omega arith) in
+      over_within at (marks_of from) disk.written (le_marks at le) place true past (omega (arith, size from)) ∙ get_or-replicate (length from) (place - at) true true (omega arith) in
       let clash : true ≡ false = sym there ∙ is in
       cc
 
@@ -89,6 +89,7 @@ module _ (disk : DiskState) (bytes : List ℕ) (reads : ReadsAs disk bytes) wher
       | inr behind ↦ (sym (over_behind at (marks_of from) disk.written (le_marks at le) place true (omega (arith, size from))) ∙ is, over_behind at from bytes le place 0 behind)
     ]
   ]
+
   pub reads_write : (at : ℕ) (from : List ℕ) → at ≤ length bytes → ReadsAs (after_write at from disk) (over at from bytes)
   reads_write at from le = record {
     reads = ap (λ l. over at from l) reads.reads;
@@ -97,9 +98,9 @@ module _ (disk : DiskState) (bytes : List ℕ) (reads : ReadsAs disk bytes) wher
       no_shorter = omega (arith, reads.image.no_shorter, length-over at from bytes le);
       no_longer = omega (arith, reads.marked, length-over at from bytes le, length-over at (replicate (length from) true) disk.written (omega (arith, reads.marked)), length-replicate (length from) true);
       unwritten = λ place within is.
-        let same = unmarked at from place le (omega (arith, reads.image.no_shorter)) is in
-        same.1 ∙ reads.image.unwritten place within same.0
-    }
+          let same = unmarked at from place le (omega (arith, reads.image.no_shorter)) is in
+          same.1 ∙ reads.image.unwritten place within same.0;
+    };
   }
 
   pub reads_sync : ReadsAs (after_sync disk) bytes
@@ -109,8 +110,8 @@ module _ (disk : DiskState) (bytes : List ℕ) (reads : ReadsAs disk bytes) wher
     image = record {
       no_shorter = omega (arith, ap length reads.reads);
       no_longer = omega (arith, length-replicate (length disk.bytes) false, ap length reads.reads);
-      unwritten = λ place within is. ap (λ l. get_or l place 0) (sym reads.reads)
-    }
+      unwritten = λ place within is. ap (λ l. get_or l place 0) (sym reads.reads);
+    };
   }
 
   pub reads_image : IsImage disk disk.bytes

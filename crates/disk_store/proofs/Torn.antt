@@ -9,7 +9,7 @@ write_is_torn at from old le = record {
   synced = refl;
   written = inr refl;
   before = take-over at from old.bytes le;
-  behind = drop-over at from old.bytes le
+  behind = drop-over at from old.bytes le;
 }
 
 pub torn_write : (at : ℕ) (from : List ℕ) (old : DiskState) → at ≤ length old.bytes → MayHaveWritten at (length from) (Some old) (Some (after_write at from old))

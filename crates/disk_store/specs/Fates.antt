@@ -51,5 +51,5 @@ fate_next turn fate = record {
   script = script_next fate.script;
   fails = fate.fails;
   calls = one_more fate.calls;
-  faults = faults_next turn fate.faults
+  faults = faults_next turn fate.faults;
 }

@@ -32,10 +32,10 @@ impl Model for History {
     ghost Value = { Recorded };
 
     ghost view = { λ h. record {
-        past = disks_before (at_rest h.first.items) h.steps.items h.pool.items;
-        disk = disk_after (at_rest h.first.items) h.steps.items h.pool.items;
-        calls = h.calls;
-        more = h.more
+      past = disks_before (at_rest h.first.items) h.steps.items h.pool.items;
+      disk = disk_after (at_rest h.first.items) h.steps.items h.pool.items;
+      calls = h.calls;
+      more = h.more;
     } };
 
     ghost invariant = { λ h. IsRecord (disk_after (at_rest h.first.items) h.steps.items h.pool.items)
@@ -89,10 +89,10 @@ impl History {
         requires calls { 0 < self.old.calls }
         requires more { length from.now ≤ self.old.more }
         ensures written { self.new ≡ record {
-            past = self.old.past ++ self.old.disk ∷ [];
-            disk = after_write at from.now self.old.disk;
-            calls = self.old.calls - 1;
-            more = self.old.more - length from.now
+          past = self.old.past ++ self.old.disk ∷ [];
+          disk = after_write at from.now self.old.disk;
+          calls = self.old.calls - 1;
+          more = self.old.more - length from.now;
         } }
         ensures image { IsImage self.new.disk self.new.disk.bytes }
     {
@@ -107,10 +107,10 @@ impl History {
     pub(crate) fn sync(&mut self)
         requires { 0 < self.old.calls }
         ensures synced { self.new ≡ record {
-            past = self.old.past ++ self.old.disk ∷ [];
-            disk = after_sync self.old.disk;
-            calls = self.old.calls - 1;
-            more = self.old.more
+          past = self.old.past ++ self.old.disk ∷ [];
+          disk = after_sync self.old.disk;
+          calls = self.old.calls - 1;
+          more = self.old.more;
         } }
         ensures image { IsImage self.new.disk self.new.disk.bytes }
     {

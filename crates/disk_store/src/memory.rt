@@ -37,9 +37,9 @@ impl MemDisk {
     pub fn new(bytes: Vec<u8>, room: u64) -> Result<MemDisk, AllocError>
         requires { length bytes.items ≤ room }
         ensures { IfOk result (λ disk. disk ≡ record {
-            disk = at_rest bytes.items;
-            room = room;
-            fate = record { script = None; fails = []; calls = 0; faults = 0 }
+          disk = at_rest bytes.items;
+          room = room;
+          fate = record { script = None; fails = []; calls = 0; faults = 0 };
         }) }
     {
         let fate = Fate::new(*bytes.allocator());
@@ -67,8 +67,8 @@ impl MemDisk {
     /// Ends the script and leaves one image: what the script keeps, or what is synced.
     pub fn crash(&mut self)
         ensures left { self.new ≡ record self.old {
-            disk = at_rest (kept (keep_of self.old.fate.script) self.old.disk);
-            fate = record self.old.fate { script = None }
+          disk = at_rest (kept (keep_of self.old.fate.script) self.old.disk);
+          fate = record self.old.fate { script = None };
         } }
         ensures image { IsImage self.old.disk self.new.disk.bytes }
     {

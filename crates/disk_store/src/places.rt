@@ -24,8 +24,8 @@ impl Model for Places {
     ghost Value = { Stored };
 
     ghost view = { λ p. record {
-        disk = record { bytes = p.bytes.items; synced = p.synced.items; written = p.written.items };
-        room = p.room
+      disk = record { bytes = p.bytes.items; synced = p.synced.items; written = p.written.items };
+      room = p.room;
     } };
 
     ghost invariant = { λ p. HasRoom (record { bytes = p.bytes.items; synced = p.synced.items; written = p.written.items })

@@ -25,11 +25,11 @@ impl Model for RecordDisk {
     ghost Value = { RecordState };
 
     ghost view = { λ r. record {
-        past = r.history.past;
-        disk = r.history.disk;
-        calls = r.history.calls;
-        more = r.history.more;
-        faults = r.faults
+      past = r.history.past;
+      disk = r.history.disk;
+      calls = r.history.calls;
+      more = r.history.more;
+      faults = r.faults;
     } };
 
     ghost invariant = { λ r. IsImage r.history.disk r.history.disk.bytes };
@@ -78,11 +78,11 @@ impl Disk for RecordDisk {
         requires { at ≤ length self.old.disk.bytes }
         ensures answers { is_ok result ≡ (nat_lt 0 self.old.calls && nat_le (length from.now) self.old.more) }
         ensures ok { OnOk result (self.new ≡ record {
-            past = self.old.past ++ self.old.disk ∷ [];
-            disk = after_write at from.now self.old.disk;
-            calls = self.old.calls - 1;
-            more = self.old.more - length from.now;
-            faults = self.old.faults
+          past = self.old.past ++ self.old.disk ∷ [];
+          disk = after_write at from.now self.old.disk;
+          calls = self.old.calls - 1;
+          more = self.old.more - length from.now;
+          faults = self.old.faults;
         }) }
         ensures err { OnErr result (self.new ≡ record self.old { faults = one_more self.old.faults }) }
         ensures torn { OnErr result (MayHaveWritten at (length from.now) (Some self.old.disk) (Some self.new.disk)) }
@@ -100,11 +100,11 @@ impl Disk for RecordDisk {
     fn sync(&mut self) -> Result<(), Failed>
         ensures answers { is_ok result ≡ nat_lt 0 self.old.calls }
         ensures ok { OnOk result (self.new ≡ record {
-            past = self.old.past ++ self.old.disk ∷ [];
-            disk = after_sync self.old.disk;
-            calls = self.old.calls - 1;
-            more = self.old.more;
-            faults = self.old.faults
+          past = self.old.past ++ self.old.disk ∷ [];
+          disk = after_sync self.old.disk;
+          calls = self.old.calls - 1;
+          more = self.old.more;
+          faults = self.old.faults;
         }) }
         ensures err { OnErr result (self.new ≡ record self.old { faults = one_more self.old.faults }) }
         ensures image { IsImage self.new.disk self.new.disk.bytes }

@@ -55,7 +55,7 @@ pub trait Disk {
         ensures answer { IfSome (outlook self.old) (λ o. is_ok result ≡ (nat_le (at + length from.now) o.room && succeeds o.failing)) }
         ensures done { IfSome (outlook self.old) (λ o. OnErr result (state self.new ≡
             (if nat_le (at + length from.now) o.room && is_done o.failing
-             then option_map (after_write at from.now) (state self.old) else state self.old))) }
+            then option_map (after_write at from.now) (state self.old) else state self.old))) }
         ensures next { outlook self.new ≡ option_map outlook_next (outlook self.old) }
         ensures cause { HasCause (faults self.old) (faults self.new) result };
 

@@ -11,8 +11,8 @@ now_is c =
     let old : DiskState = disk_after (at_rest c.self.inside.first.items) c.self.inside.steps.items c.self.inside.pool.items in
     let steps_are : c.push.new.self.items ≡ c.self.inside.steps.items ++ Sync ∷ [] = search rules in
     let disk_is : disk_after (at_rest c.self.inside.first.items) c.push.new.self.items c.self.inside.pool.items ≡ after_sync old =
-      ap (λ steps. disk_after (at_rest c.self.inside.first.items) steps c.self.inside.pool.items) steps_are
-      ∙ after_one_sync (at_rest c.self.inside.first.items) c.self.inside.steps.items c.self.inside.pool.items in
+    ap (λ steps. disk_after (at_rest c.self.inside.first.items) steps c.self.inside.pool.items) steps_are
+    ∙ after_one_sync (at_rest c.self.inside.first.items) c.self.inside.steps.items c.self.inside.pool.items in
     subst (λ (disk : DiskState). ReadsAs disk c.self.inside.bytes.items) (sym disk_is) (reads_sync old c.self.inside.bytes.items c.self.invariant.now)
 
 pub invariant_of-self : goal.invariant_of-self
@@ -23,7 +23,7 @@ invariant_of-self c =
       now = now_is c;
       steps_fit = omega (arith, c.self.invariant.steps_fit, ap length steps_are, length-append c.self.inside.steps.items (Sync ∷ []), c.push.ensures.capacity);
       pool_fit = c.self.invariant.pool_fit;
-      bytes_fit = c.self.invariant.bytes_fit
+      bytes_fit = c.self.invariant.bytes_fit;
     }
 
 pub returns-clause-image : goal.returns-clause-image
