@@ -105,7 +105,7 @@ sealed_ready (Some old) new gate payload ready is disk told =
     let there : IsReady (at_rest (sealed gate payload old.bytes)) (gate + 5 + length payload) = record {
       at_rest = refl;
       within = sealed_within gate payload old.bytes within;
-      closed = λ is_open. let clash : 0 ≡ 1 = sym (sealed_closed gate payload old.bytes within) ∙ is_open in cc
+      closed = λ is_open. let clash : 0 ≡ 1 = sym (sealed_closed gate payload old.bytes within) ∙ is_open in cc;
     } in
     subst (λ (d : DiskState). IsReady d (gate + 5 + length payload)) (sym same) there
 

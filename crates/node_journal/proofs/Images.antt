@@ -160,9 +160,9 @@ module _ (gate : ℕ) (payload bytes : List ℕ) (within : gate < length bytes) 
       let head = 1 ∷ length_bytes (length payload) ++ payload in
       let rest = drop (gate + length (1 ∷ frame_of payload)) bytes in
       let split : sealed gate payload bytes ≡ (take gate bytes ++ head) ++ 0 ∷ rest =
-        ap (λ (l : List ℕ). l ++ rest) (sym (append_assoc (take gate bytes) head (0 ∷ []))) ∙ append_assoc (take gate bytes ++ head) (0 ∷ []) rest in
+      ap (λ (l : List ℕ). l ++ rest) (sym (append_assoc (take gate bytes) head (0 ∷ []))) ∙ append_assoc (take gate bytes ++ head) (0 ∷ []) rest in
       let size : length (take gate bytes ++ head) ≡ gate + 5 + length payload =
-        omega (arith, length-append (take gate bytes) head, length_frame payload, length-take-le gate bytes (omega arith)) in
+      omega (arith, length-append (take gate bytes) head, length_frame payload, length-take-le gate bytes (omega arith)) in
       ap (λ (l : List ℕ). get_or l (gate + 5 + length payload) 0) split ∙ get_or_at (take gate bytes ++ head) 0 rest 0 (gate + 5 + length payload) size
 
   -- the next gate ends the list with one payload more

@@ -1,10 +1,10 @@
+ghost use Rattle.std.specs.Prelude.{◌≤◌, ◌^◌};
+
 use super::*;
 use disk_store::{Disk, FileDisk, Keep, MemDisk, RecordDisk, Stop};
 use helios_model::numbers::Bytes;
 use std::alloc::{AllocError, Global};
 use std::test::Fail;
-
-ghost use Rattle.std.specs.Prelude.{◌≤◌, ◌^◌};
 
 /// The payload `aa`.
 fn frame_aa(alloc: Global) -> Result<Framed, AllocError> {
@@ -32,7 +32,12 @@ fn reads_as<D: Disk>(disk: &mut D, wanted: &[u8]) -> bool {
 }
 
 /// Opens a journal, and adds a payload where there is none.
-fn add_first<D: Disk>(alloc: Global, disk: &mut D, limit: u64, frame: &Framed) -> Result<(), JournalFault>
+fn add_first<D: Disk>(
+    alloc: Global,
+    disk: &mut D,
+    limit: u64,
+    frame: &Framed,
+) -> Result<(), JournalFault>
     requires some { 1 ≤ limit }
     requires bounded { limit ≤ 2 ^ 40 }
 {
@@ -41,12 +46,19 @@ fn add_first<D: Disk>(alloc: Global, disk: &mut D, limit: u64, frame: &Framed) -
             let _journal = journal.append(disk, frame)?;
             Ok(())
         }
-        Found::Frame { .. } => Ok(()),
+        Found::Frame {
+            reading: _reading,
+            at: _at,
+            payload: _payload,
+        } => Ok(()),
     }
 }
 
 /// The first payload of a journal that is opened anew, and its place.
-fn first_payload<D: Disk>(alloc: Global, disk: &mut D) -> Result<Option<(u64, Bytes)>, JournalFault> {
+fn first_payload<D: Disk>(
+    alloc: Global,
+    disk: &mut D,
+) -> Result<Option<(u64, Bytes)>, JournalFault> {
     match Journal::open(disk, 1000)?.next(alloc, disk)? {
         Found::Last(_) => Ok(None),
         Found::Frame { at, payload, .. } => Ok(Some((at, payload))),
@@ -66,7 +78,10 @@ fn a_payload_is_added_up_to_the_limit(rt: HostRuntime) -> Result<(), Fail> {
     add_first(alloc, &mut record, 7, &frame)?;
     assert!(rt; reads_as(&mut record, b"\x01\0\0\0\x01\xaa\0"));
     let mut small = memory(alloc, b"")?;
-    assert_eq!(rt; add_first(alloc, &mut small, 6, &frame), Err(JournalFault::JournalFull));
+    assert_eq!(rt;
+        add_first(alloc, &mut small, 6, &frame),
+        Err(JournalFault::JournalFull)
+    );
     assert!(rt; reads_as(&mut small, b"\0"));
     Ok(())
 }
@@ -102,22 +117,42 @@ fn a_stop_leaves_the_list_before_or_after(rt: HostRuntime) -> Result<(), Fail> {
         (1, Keep::Nothing, b"\0".as_slice(), false),
         (1, Keep::Byte(0), b"\0\0\0\0\0\0\0".as_slice(), false),
         (1, Keep::Byte(1), torn, false),
-        (1, Keep::Byte(255), b"\0\xff\xff\xff\xff\xff\xff".as_slice(), false),
+        (
+            1,
+            Keep::Byte(255),
+            b"\0\xff\xff\xff\xff\xff\xff".as_slice(),
+            false,
+        ),
         (2, Keep::All, framed, false),
         (2, Keep::Nothing, b"\0".as_slice(), false),
         (2, Keep::Byte(0), b"\0\0\0\0\0\0\0".as_slice(), false),
         (2, Keep::Byte(1), torn, false),
-        (2, Keep::Byte(255), b"\0\xff\xff\xff\xff\xff\xff".as_slice(), false),
+        (
+            2,
+            Keep::Byte(255),
+            b"\0\xff\xff\xff\xff\xff\xff".as_slice(),
+            false,
+        ),
         (3, Keep::All, opened, true),
         (3, Keep::Nothing, framed, false),
         (3, Keep::Byte(0), framed, false),
         (3, Keep::Byte(1), opened, true),
-        (3, Keep::Byte(255), b"\xff\0\0\0\x01\xaa\0".as_slice(), false),
+        (
+            3,
+            Keep::Byte(255),
+            b"\xff\0\0\0\x01\xaa\0".as_slice(),
+            false,
+        ),
         (4, Keep::All, opened, true),
         (4, Keep::Nothing, framed, false),
         (4, Keep::Byte(0), framed, false),
         (4, Keep::Byte(1), opened, true),
-        (4, Keep::Byte(255), b"\xff\0\0\0\x01\xaa\0".as_slice(), false),
+        (
+            4,
+            Keep::Byte(255),
+            b"\xff\0\0\0\x01\xaa\0".as_slice(),
+            false,
+        ),
     ];
     for (call, keep, left, added) in table {
         if call <= 4 {
@@ -131,7 +166,10 @@ fn a_stop_leaves_the_list_before_or_after(rt: HostRuntime) -> Result<(), Fail> {
 fn journals_are_read_as_they_stand(rt: HostRuntime) -> Result<(), Fail> {
     let alloc = rt.alloc();
     let mut cut = memory(alloc, b"\x01\0\0\0")?;
-    assert_eq!(rt; first_payload(alloc, &mut cut).err(), Some(JournalFault::Damaged { at: 0 }));
+    assert_eq!(rt;
+        first_payload(alloc, &mut cut).err(),
+        Some(JournalFault::Damaged { at: 0 })
+    );
     let mut gate = memory(alloc, b"\x01")?;
     assert!(rt; first_payload(alloc, &mut gate)?.is_none() && reads_as(&mut gate, b"\0"));
     Ok(())

@@ -42,6 +42,6 @@ returns-clause-ready g c =
     let gate_is : c.self.inside.gate ≡ c.args.self.gate = ap (λ (p : Position). p.gate) c.self.view_is in
     let next : c.args.self.gate + 5 + length c.args.frame.now ≡ c.self.inside.gate + length c.bytes-bytes.result.now = omega (arith, gate_is, c.bytes-bytes.ensures.size) in
     rw (← next)
-      (sealed_ready (g.D.Disk.state c.args.disk.now) (g.D.Disk.state c.write_durably-2.new.disk) c.args.self.gate c.args.frame.now c.requires
-        (both_sealed (g.D.Disk.state c.args.disk.now) (g.D.Disk.state c.write_durably.new.disk) (g.D.Disk.state c.write_durably-2.new.disk) c.args.self.gate c.args.frame.now c.requires
-          (rw (gate_is, c.bytes-bytes.ensures.bytes) at c.in_ok-write_durably.ensures.ok) (rw gate_is at c.in_ok-write_durably-2.ensures.ok)))
+    (sealed_ready (g.D.Disk.state c.args.disk.now) (g.D.Disk.state c.write_durably-2.new.disk) c.args.self.gate c.args.frame.now c.requires
+    (both_sealed (g.D.Disk.state c.args.disk.now) (g.D.Disk.state c.write_durably.new.disk) (g.D.Disk.state c.write_durably-2.new.disk) c.args.self.gate c.args.frame.now c.requires
+    (rw (gate_is, c.bytes-bytes.ensures.bytes) at c.in_ok-write_durably.ensures.ok) (rw gate_is at c.in_ok-write_durably-2.ensures.ok)))
