@@ -1,5 +1,5 @@
 -- Bytes of which those at the places written are replaced.
-use Rattle.std.proofs.Common.{◌≡◌, ◌⊎◌, inl, inr, ◌∙◌, if◌then◌else◌, ℕ, zero, suc, ◌+◌, ◌<◌, ◌≤◌, Bool, true, false, List, [], ◌∷◌, length, take, set, get_or, refl, ap, arith}
+use Rattle.std.proofs.Common.{◌≡◌, ◌⊎◌, inl, inr, ◌∙◌, if◌then◌else◌, ℕ, zero, suc, ◌+◌, ◌<◌, Bool, true, false, List, [], ◌∷◌, length, take, set, get_or, refl, ap, arith}
 use Rattle.disk_store.specs.Disk.{DiskState, IsImage}
 use Rattle.disk_store.specs.Crash.{fill_written, kept}
 use Rattle.disk_store.specs.declared.fate.Keep.{Keep}

@@ -1,10 +1,10 @@
 -- How the moments of a run of calls go on.
-use Rattle.std.proofs.Common.{◌≡◌, ◌⊎◌, inl, inr, ℕ, ◌+◌, ◌<◌, ◌≤◌, List, [], ◌∷◌, ◌++◌, length, get_or, drop, Option, Some, None, IfSome, refl, sym, ◌∙◌, ap, subst, arith, append_assoc, length-append}
+use Rattle.std.proofs.Common.{◌≡◌, inl, inr, ◌+◌, List, [], ◌∷◌, ◌++◌, length, drop, Option, Some, None, refl, sym, ◌∙◌, ap, subst, arith, append_assoc, length-append}
 use Rattle.std.specs.List.{All}
-use Rattle.std.proofs.lemmas.List.{drop_at, drop_all, drop-append-le, append-nil, get_or_append_left, get_or-append-add}
+use Rattle.std.proofs.lemmas.List.{drop_at, drop_all, append-nil, get_or_append_left, get_or-append-add}
 use Rattle.std.proofs.lemmas.List.Elements.{All-nil, All-cons, All-append, All-weaker}
 use Rattle.disk_store.specs.Disk.{DiskState}
-use Rattle.disk_store.specs.Moments.{Elapses, pushed, states_since, GoesOn, AtEachMoment}
+use Rattle.disk_store.specs.Moments.{Elapses, pushed, states_since, AtEachMoment}
 
 abbrev pub Past : Type 0
 Past = Option (List DiskState)

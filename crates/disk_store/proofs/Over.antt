@@ -1,6 +1,6 @@
 -- Lists of which a range is replaced.
-use Rattle.std.proofs.Common.{◌≡◌, ℕ, suc, ◌+◌, ◌-◌, ◌<◌, ◌≤◌, max, Bool, true, List, [], ◌∷◌, ◌++◌, length, take, drop, set, replicate, get_or, refl, sym, ◌∙◌, ap, arith, append_assoc, length-append, length-drop}
-use Rattle.std.proofs.lemmas.List.{length-take-le, length-replicate, take_at, drop_at, take_all, drop_all, drop-drop, append-nil, set_split, replicate-append-replicate, take-append-drop, get_or-append_right, get_or_append_left, get_or-take, get_or-drop, take-append-le}
+use Rattle.std.proofs.Common.{◌≡◌, ℕ, suc, ◌+◌, ◌-◌, ◌<◌, ◌≤◌, max, Bool, true, List, [], ◌∷◌, ◌++◌, length, take, drop, set, replicate, get_or, sym, ◌∙◌, ap, arith, append_assoc, length-append, length-drop}
+use Rattle.std.proofs.lemmas.List.{length-take-le, length-replicate, take_at, drop_at, drop-drop, append-nil, set_split, replicate-append-replicate, take-append-drop, get_or-append_right, get_or_append_left, get_or-take, get_or-drop}
 use Rattle.disk_store.specs.Disk.{over}
 
 -- the front that is replaced up to its end

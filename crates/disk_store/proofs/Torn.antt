@@ -1,5 +1,5 @@
 -- What a write that failed may have done.
-use Rattle.std.proofs.Common.{◌≡◌, ℕ, ◌≤◌, Some, List, length, inl, inr, refl}
+use Rattle.std.proofs.Common.{ℕ, ◌≤◌, Some, List, length, inl, inr, refl}
 use Rattle.disk_store.specs.Disk.{DiskState, TornWrite, MayHaveWritten, after_write}
 use Rattle.disk_store.proofs.Over.{take-over, drop-over}
 

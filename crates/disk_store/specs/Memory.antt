@@ -1,15 +1,12 @@
 -- A disk in memory: its contents, and which of its calls fail.
-use Rattle.std.specs.Prelude.{ℕ, ◌+◌, ◌-◌, ◌^◌, min, Bool, not, ◌||◌, List, [], ◌∷◌, Option, Some, None, ◌==◌, if◌then◌else◌}
-use Rattle.std.specs.List.{list_any}
-use Rattle.disk_store.specs.Disk.{DiskState, after_write, after_sync, at_rest}
+use Rattle.std.specs.Prelude.{ℕ, List, [], ◌∷◌, Option, Some, None, ◌==◌, if◌then◌else◌}
+use Rattle.disk_store.specs.Disk.{DiskState, at_rest}
 use Rattle.disk_store.specs.Outlook.{Outlook, Failing, never, at_call, already}
-use Rattle.disk_store.specs.Crash.{kept}
 use Rattle.disk_store.specs.declared.fate.Keep.{Keep}
 use Rattle.disk_store.specs.declared.fate.Keep.TheVariants.{Nothing}
 use Rattle.disk_store.specs.declared.fate.Script.{Script}
 use Rattle.disk_store.specs.declared.fate.Turn.{Turn}
-use Rattle.disk_store.specs.declared.fate.Turn.TheVariants.{Done, Stopped, Skipped}
-use Rattle.disk_store.specs.Fates.{FateState, turn_of, was_done, fate_next}
+use Rattle.disk_store.specs.Fates.{FateState, was_done, fate_next}
 
 -- what contracts see of a `MemDisk`
 pub record MemState : Type 0 where

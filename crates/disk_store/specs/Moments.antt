@@ -1,7 +1,7 @@
 -- What a disk was at each moment of a call, or of a run of calls.
-use Rattle.std.specs.Prelude.{◌≡◌, ◌⊎◌, ℕ, List, [], ◌∷◌, ◌++◌, length, take, drop, Option, Some, None, IfSome}
+use Rattle.std.specs.Prelude.{◌≡◌, ◌⊎◌, List, [], ◌∷◌, ◌++◌, length, drop, Option, Some, None, IfSome}
 use Rattle.std.specs.List.{All}
-use Rattle.disk_store.specs.Disk.{DiskState, IsImage}
+use Rattle.disk_store.specs.Disk.{DiskState}
 
 -- the past with one state more, where both are told
 abbrev pub pushed : Option (List DiskState) → Option DiskState → Option (List DiskState)

@@ -1,13 +1,11 @@
 -- What each exit of an `append` leaves.
-use Rattle.std.proofs.Common.{◌≡◌, ◌≢◌, ◌⊎◌, inl, inr, ℕ, ◌+◌, ◌-◌, ◌<◌, ◌≤◌, Bool, true, false, ◌&&◌, nat_le, nat_lt, List, [], ◌∷◌, ◌++◌, length, get_or, Option, Some, None, option_map, is_some, IfSome, refl, sym, ◌∙◌, ap, subst, arith}
+use Rattle.std.proofs.Common.{◌≡◌, ◌≢◌, inl, inr, ℕ, ◌+◌, ◌<◌, true, false, List, [], ◌∷◌, ◌++◌, length, get_or, Option, Some, None, option_map, is_some, IfSome, refl, sym, ◌∙◌, ap, subst, arith}
 use Rattle.std.specs.Option.{ForSome}
-use Rattle.std.proofs.lemmas.Bool.Decides.{nat_tests}
-use Rattle.disk_store.specs.Disk.{DiskState, IsImage, EachImage, TornWrite, at_rest, over, after_write, after_sync}
+use Rattle.disk_store.specs.Disk.{DiskState, IsImage, EachImage, at_rest, over, after_write, after_sync}
 use Rattle.disk_store.specs.Moments.{AtEachMoment}
-use Rattle.disk_store.specs.Outlook.{Failing, never, at_call, already, failing_next, is_done}
 use Rattle.disk_store.proofs.Moments.{Past, moments_start, moments_join, moments_weaker}
-use Rattle.node_journal.specs.Frames.{IsSmall, frame_of, IsReadTo, EndsAt, StandsFor}
-use Rattle.node_journal.specs.Appending.{IsReady, IsBeforeOrAfter, WhileWriting, sealed, lasts, failed_state, framed}
+use Rattle.node_journal.specs.Frames.{IsSmall, frame_of, IsReadTo, EndsAt}
+use Rattle.node_journal.specs.Appending.{IsReady, IsBeforeOrAfter, WhileWriting, sealed}
 use Rattle.node_journal.proofs.Images.{torn_images, rest_images, staged, staged_before, staged_within, staged_gate, gate_over, sealed_ends, gate_images, frame_images, ends_kept, sealed_within, sealed_closed}
 
 module _ (gate : ℕ) (payload : List ℕ) (small : IsSmall payload) where

@@ -1,9 +1,7 @@
 -- Lengths as bytes, and frames.
-use Rattle.std.proofs.Common.{◌≡◌, ℕ, ◌+◌, ◌-◌, ◌*◌, ◌^◌, ◌<◌, ◌≤◌, List, [], ◌∷◌, ◌++◌, length, take, drop, refl, sym, ◌∙◌, ap, subst, arith, append_assoc, length-append}
-use Rattle.std.specs.Int.{w32, to_be_bytes, from_be_bytes}
+use Rattle.std.proofs.Common.{◌≡◌, ℕ, ◌+◌, ◌-◌, List, [], ◌∷◌, ◌++◌, length, take, drop, refl, sym, ◌∙◌, ap, subst, arith, append_assoc, length-append}
 use Rattle.std.proofs.lemmas.List.{take_at, drop_at}
-use Rattle.std.proofs.lemmas.Nat.{be_bytes_4, from_be_bytes-to_be_bytes_4}
-use Rattle.node_journal.specs.Frames.{length_bytes, length_from, IsSmall, frame_of, payload_in, IsFrame}
+use Rattle.node_journal.specs.Frames.{length_bytes, IsSmall, frame_of, payload_in, IsFrame}
 
 pub length-length_bytes : (size : ℕ) → length (length_bytes size) ≡ 4
 unfolding length_bytes

@@ -1,9 +1,9 @@
 -- What a reading finds, and what was read then.
-use Rattle.std.proofs.Common.{◌≡◌, ◌≢◌, ℕ, ◌+◌, ◌-◌, ◌<◌, ◌≤◌, List, [], ◌∷◌, ◌++◌, length, take, drop, get_or, Option, Some, None, Result, Ok, Err, IfSome, IfOk, refl, sym, ◌∙◌, ap, subst, arith, append_assoc, take-append-drop}
+use Rattle.std.proofs.Common.{◌≡◌, ℕ, ◌+◌, ◌-◌, ◌<◌, ◌≤◌, List, [], ◌∷◌, ◌++◌, length, take, drop, Option, Some, None, Result, Ok, Err, IfSome, IfOk, refl, sym, ◌∙◌, ap, subst, arith, append_assoc, take-append-drop}
 use Rattle.std.specs.Option.{ForSome}
 use Rattle.std.proofs.lemmas.List.{drop-drop}
 use Rattle.disk_store.specs.Disk.{DiskState}
-use Rattle.node_journal.specs.Frames.{length_bytes, IsSmall, HoldsFrame, IsReadTo, EndsAt}
+use Rattle.node_journal.specs.Frames.{length_bytes, HoldsFrame, IsReadTo, EndsAt}
 use Rattle.node_journal.specs.Heads.{HasLength}
 use Rattle.node_journal.specs.Positions.{Position}
 use Rattle.node_journal.specs.Reading.{Finds, ReadsOn, LeavesReady}

@@ -1,11 +1,10 @@
 -- What is read at a gate.
-use Rattle.std.proofs.Common.{◌≡◌, ◌≢◌, ◌⊎◌, inl, inr, ℕ, suc, ◌+◌, ◌-◌, ◌<◌, ◌≤◌, min, List, [], ◌∷◌, ◌++◌, length, take, drop, get_or, Option, Some, None, IfSome, refl, sym, ◌∙◌, ap, subst, arith, append_assoc}
+use Rattle.std.proofs.Common.{◌≡◌, ℕ, suc, ◌+◌, ◌<◌, List, [], ◌∷◌, length, take, drop, get_or, Option, Some, None, IfSome, refl, sym, ◌∙◌, ap, arith}
 use Rattle.std.specs.Option.{ForSome}
-use Rattle.std.specs.Int.{w32, to_be_bytes, from_be_bytes}
 use Rattle.std.proofs.lemmas.Nat.{be_bytes_4}
-use Rattle.std.proofs.lemmas.List.{length-take, length-drop, get_or-take, get_or-drop, take_all, take-take, drop-drop, drop-take, take-append-drop}
+use Rattle.std.proofs.lemmas.List.{length-take, get_or-take, get_or-drop, take_all, take-take, drop-drop, drop-take}
 use Rattle.disk_store.specs.Disk.{DiskState, GivesBytes}
-use Rattle.node_journal.specs.Frames.{length_bytes, length_from, length_at}
+use Rattle.node_journal.specs.Frames.{length_bytes, length_from}
 use Rattle.node_journal.specs.Heads.{HasLength, HeadIs}
 use Rattle.node_journal.specs.declared.head.Head.{Head}
 use Rattle.node_journal.specs.declared.head.Head.TheVariants.{Closed, Cut, Length}

@@ -1,11 +1,10 @@
 -- What images stand for, and how that stays or grows.
-use Rattle.std.proofs.Common.{◌≡◌, ◌≢◌, ◌⊎◌, inl, inr, ℕ, zero, suc, ◌+◌, ◌-◌, ◌<◌, ◌≤◌, max, Bool, true, false, List, [], ◌∷◌, ◌++◌, length, take, drop, get_or, replicate, refl, sym, ◌∙◌, ap, subst, arith, append_assoc, length-append, take-append-drop}
-use Rattle.std.specs.List.{All}
+use Rattle.std.proofs.Common.{◌≡◌, ◌≢◌, ◌⊎◌, inl, inr, ℕ, ◌+◌, ◌-◌, ◌<◌, ◌≤◌, max, Bool, true, false, List, [], ◌∷◌, ◌++◌, length, take, drop, get_or, replicate, sym, ◌∙◌, ap, subst, arith, append_assoc, length-append, take-append-drop}
 use Rattle.std.proofs.lemmas.Bool.{cases_eq, cases_lt}
-use Rattle.std.proofs.lemmas.List.{take_at, drop_at, take-take, get_or-take, get_or-drop, get_or_at, ext_get_or, length-take-le, length-replicate, get_or-replicate, append-nil, drop-drop, length-drop}
+use Rattle.std.proofs.lemmas.List.{take_at, drop_at, take-take, get_or-take, get_or_at, ext_get_or, length-take-le, length-replicate, get_or-replicate, append-nil}
 use Rattle.std.proofs.lemmas.List.Elements.{All-push}
 use Rattle.disk_store.specs.Disk.{DiskState, IsImage, TornWrite, at_rest, over}
-use Rattle.disk_store.proofs.Over.{length-over, take-over, drop-over, over_before, over_within, over_behind}
+use Rattle.disk_store.proofs.Over.{length-over, take-over, over_before, over_within, over_behind}
 use Rattle.node_journal.specs.Frames.{length_bytes, IsSmall, frame_of, frames, IsReadTo, EndsAt, HoldsFrame, StandsFor}
 use Rattle.node_journal.specs.Appending.{IsBeforeOrAfter, sealed}
 use Rattle.node_journal.proofs.Bytes.{length-length_bytes, length-frame_of}

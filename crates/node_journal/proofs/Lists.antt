@@ -1,11 +1,10 @@
 -- Which lists an image stands for.
-use Rattle.std.proofs.Common.{◌≡◌, ◌≢◌, ◌⊎◌, inl, inr, ℕ, zero, suc, ◌+◌, ◌-◌, ◌<◌, ◌≤◌, ◌^◌, List, [], ◌∷◌, ◌++◌, length, take, drop, get_or, refl, sym, ◌∙◌, ap, subst, arith, append_assoc, length-append, length-drop, take-append-drop}
-use Rattle.std.specs.Int.{w32, to_be_bytes, from_be_bytes}
+use Rattle.std.proofs.Common.{◌≡◌, ◌≢◌, inl, inr, ℕ, ◌+◌, ◌-◌, ◌<◌, ◌≤◌, List, [], ◌∷◌, ◌++◌, length, take, drop, get_or, refl, sym, ◌∙◌, ap, arith, append_assoc, length-append, length-drop, take-append-drop}
 use Rattle.std.specs.List.{All}
 use Rattle.std.proofs.lemmas.Nat.{from_be_bytes-to_be_bytes_4}
-use Rattle.std.proofs.lemmas.List.{take_at, drop_at, get_or-drop, drop-drop, length-take-le}
+use Rattle.std.proofs.lemmas.List.{take_at, drop_at, get_or-drop, drop-drop}
 use Rattle.std.proofs.lemmas.List.Elements.{All-head, All-tail}
-use Rattle.node_journal.specs.Frames.{length_bytes, length_from, length_at, IsSmall, frames, IsReadTo, EndsAt, LeadsNowhere, StandsFor}
+use Rattle.node_journal.specs.Frames.{length_bytes, length_from, length_at, IsSmall, frames, IsReadTo, LeadsNowhere, StandsFor}
 use Rattle.node_journal.proofs.Bytes.{length-length_bytes}
 use Rattle.node_journal.proofs.Opens.{short_none}
 

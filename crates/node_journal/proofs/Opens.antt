@@ -1,15 +1,14 @@
 -- What each exit of an `open` leaves.
-use Rattle.std.proofs.Common.{◌≡◌, ◌≢◌, ◌⊎◌, inl, inr, ℕ, ◌+◌, ◌-◌, ◌<◌, ◌≤◌, max, Bool, true, false, nat_le, List, [], ◌∷◌, ◌++◌, length, take, drop, Option, Some, None, option_map, is_some, IfSome, refl, sym, ◌∙◌, ap, subst, arith}
+use Rattle.std.proofs.Common.{◌≡◌, ◌⊎◌, inl, inr, ℕ, ◌<◌, ◌≤◌, true, false, nat_le, List, [], ◌∷◌, length, take, Option, Some, None, option_map, is_some, IfSome, refl, sym, ◌∙◌, ap, subst, arith}
 use Rattle.std.specs.Option.{ForSome}
 use Rattle.std.proofs.lemmas.List.{drop_all}
 use Rattle.std.proofs.lemmas.List.Elements.{All-nil}
 use Rattle.std.proofs.lemmas.Bool.{cases_lt}
 use Rattle.std.proofs.lemmas.Bool.Decides.{nat_tests}
-use Rattle.disk_store.specs.Disk.{DiskState, IsImage, EachImage, TornWrite, IsAtRest, at_rest, over, after_write, after_sync}
+use Rattle.disk_store.specs.Disk.{DiskState, IsImage, IsAtRest, at_rest, over, after_sync}
 use Rattle.disk_store.specs.Moments.{Elapses, AtEachMoment}
-use Rattle.disk_store.proofs.Moments.{Past, moments_start, moments_call, moments_join, moments_weaker}
-use Rattle.disk_store.proofs.Over.{length-over}
-use Rattle.node_journal.specs.Frames.{IsSmall, frames, IsReadTo, EndsAt, StandsFor}
+use Rattle.disk_store.proofs.Moments.{Past, moments_call, moments_join, moments_weaker}
+use Rattle.node_journal.specs.Frames.{IsSmall, frames, IsReadTo, StandsFor}
 use Rattle.node_journal.specs.Appending.{WhileWriting}
 use Rattle.node_journal.specs.Opening.{KeepsPayloads, opened}
 use Rattle.node_journal.proofs.Images.{torn_images, rest_images}

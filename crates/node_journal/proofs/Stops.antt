@@ -1,10 +1,10 @@
 -- What a crash leaves after an `append` was stopped.
-use Rattle.std.proofs.Common.{◌≡◌, ◌≢◌, inl, inr, ℕ, ◌+◌, ◌-◌, ◌<◌, ◌≤◌, Bool, true, false, ◌&&◌, ◌==◌, nat_le, if◌then◌else◌, List, [], ◌∷◌, ◌++◌, length, get_or, replicate, refl, sym, ◌∙◌, ap, subst, arith}
+use Rattle.std.proofs.Common.{◌≡◌, ◌≢◌, inl, inr, ℕ, ◌+◌, ◌-◌, ◌<◌, ◌≤◌, true, false, ◌==◌, nat_le, if◌then◌else◌, List, [], ◌∷◌, ◌++◌, length, get_or, replicate, refl, sym, ◌∙◌, ap, subst, arith}
 use Rattle.std.proofs.lemmas.Bool.{cases_eq, cases_lt}
 use Rattle.std.proofs.lemmas.Bool.Decides.{nat_tests}
 use Rattle.std.proofs.lemmas.List.{length-replicate}
-use Rattle.disk_store.specs.Disk.{DiskState, IsImage, TornWrite, at_rest, over, after_write, after_sync}
-use Rattle.disk_store.specs.Crash.{kept, fill_written}
+use Rattle.disk_store.specs.Disk.{DiskState, at_rest, over, after_write}
+use Rattle.disk_store.specs.Crash.{kept}
 use Rattle.disk_store.specs.Records.{ReadsAs}
 use Rattle.disk_store.specs.declared.fate.Keep.{Keep}
 use Rattle.disk_store.specs.declared.fate.Keep.TheVariants.{All, Nothing, Byte}
@@ -12,9 +12,9 @@ use Rattle.disk_store.proofs.Over.{over_within, length-over}
 use Rattle.disk_store.proofs.Fill.{kept_image, fill_marked}
 use Rattle.disk_store.proofs.Records.{reads_write}
 use Rattle.disk_store.proofs.Torn.{write_is_torn}
-use Rattle.node_journal.specs.Frames.{IsSmall, frame_of, IsReadTo, EndsAt, StandsFor}
+use Rattle.node_journal.specs.Frames.{IsSmall, frame_of, IsReadTo, StandsFor}
 use Rattle.node_journal.specs.Appending.{IsReady, sealed, framed, stopped_at, is_kept}
-use Rattle.node_journal.proofs.Images.{TornFrom, torn_images, staged, staged_before, staged_within, staged_gate, gate_over, gate_opened, sealed_ends, frame_images, ends_kept}
+use Rattle.node_journal.proofs.Images.{TornFrom, torn_images, staged, staged_before, staged_within, staged_gate, gate_opened, sealed_ends, frame_images, ends_kept}
 
 rest_reads : (bytes : List ℕ) → ReadsAs (at_rest bytes) bytes
 rest_reads bytes = record {

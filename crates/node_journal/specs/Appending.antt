@@ -1,10 +1,10 @@
 -- What one `append` does to a disk.
-use Rattle.std.specs.Prelude.{◌≡◌, ◌≢◌, ◌⊎◌, ℕ, ◌+◌, ◌-◌, ◌<◌, ◌≤◌, Bool, true, false, ◌&&◌, ◌==◌, nat_le, nat_lt, if◌then◌else◌, List, [], ◌∷◌, ◌++◌, length, slice_index, Option, IfSome}
+use Rattle.std.specs.Prelude.{◌≡◌, ◌≢◌, ◌⊎◌, ℕ, ◌+◌, ◌<◌, Bool, true, false, ◌&&◌, ◌==◌, nat_le, nat_lt, if◌then◌else◌, List, [], ◌∷◌, ◌++◌, length, slice_index}
 use Rattle.disk_store.specs.Disk.{DiskState, IsAtRest, TornWrite, over, after_write, after_sync}
 use Rattle.disk_store.specs.Outlook.{Outlook, Failing, never, at_call, already, outlook_next}
 use Rattle.disk_store.specs.declared.fate.Keep.{Keep}
 use Rattle.disk_store.specs.declared.fate.Keep.TheVariants.{All, Nothing, Byte}
-use Rattle.node_journal.specs.Frames.{StandsFor, IsReadTo, EndsAt, frame_of}
+use Rattle.node_journal.specs.Frames.{StandsFor, frame_of}
 
 -- nothing is pending, and the gate stands on the disk and is not open
 pub record IsReady (disk : DiskState) (gate : ℕ) : Type 0 where

@@ -1,5 +1,5 @@
 -- What `open` does to a disk.
-use Rattle.std.specs.Prelude.{◌≡◌, ◌⊎◌, ℕ, ◌≤◌, nat_le, if◌then◌else◌, List, [], ◌∷◌, length}
+use Rattle.std.specs.Prelude.{ℕ, nat_le, if◌then◌else◌, List, [], ◌∷◌, length}
 use Rattle.disk_store.specs.Disk.{DiskState, EachImage}
 use Rattle.node_journal.specs.Frames.{StandsFor}
 

@@ -1,6 +1,6 @@
 -- What a reading finds at its gate.
-use Rattle.std.specs.Prelude.{◌≡◌, ◌≢◌, ℕ, ◌+◌, ◌<◌, ◌≤◌, List, [], ◌∷◌, ◌++◌, length, take, drop, slice_index, Result, Ok, Err}
-use Rattle.node_journal.specs.Frames.{length_bytes, length_at, HoldsFrame, LeadsNowhere, IsReadTo, EndsAt, StandsFor}
+use Rattle.std.specs.Prelude.{◌≡◌, ◌≢◌, ℕ, ◌+◌, ◌<◌, List, [], ◌∷◌, ◌++◌, length, slice_index, Result, Ok, Err}
+use Rattle.node_journal.specs.Frames.{HoldsFrame, LeadsNowhere, IsReadTo, EndsAt}
 use Rattle.node_journal.specs.Appending.{IsReady}
 use Rattle.disk_store.specs.Disk.{DiskState, IsAtRest}
 use Rattle.node_journal.specs.Positions.{Position}

@@ -1,5 +1,4 @@
-use Rattle.std.proofs.Common.{◌≡◌, take, length, arith}
-use Rattle.node_journal.specs.Heads.{HeadIs}
+use Rattle.std.proofs.Common.{arith}
 use Rattle.node_journal.proofs.HeadLemmas.{head_read}
 use Rattle.node_journal.proofs.head.read_head.Goals as goal
 

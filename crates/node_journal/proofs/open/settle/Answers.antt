@@ -1,5 +1,5 @@
-use Rattle.std.proofs.Common.{◌≡◌, ◌∙◌, ap, is_some, option_map, inl, Option}
-use Rattle.disk_store.specs.Disk.{DiskState, after_sync}
+use Rattle.std.proofs.Common.{◌∙◌, ap, is_some, inl, Option}
+use Rattle.disk_store.specs.Disk.{DiskState}
 use Rattle.node_journal.proofs.Opens.{moments_sync, moments_made, short_if}
 use Rattle.node_journal.proofs.open.settle.Goals as goal
 

@@ -1,5 +1,5 @@
 use Rattle.std.proofs.Common.{◌≡◌, ◌++◌, map, take, drop}
-use Rattle.disk_store.specs.Memory.{MemState, cleared}
+use Rattle.disk_store.specs.Memory.{cleared}
 use Rattle.disk_store.proofs.bench.Bench.clear.Given as goal
 
 abbrev pub invariant-loop-disk : goal.invariant-loop-disk

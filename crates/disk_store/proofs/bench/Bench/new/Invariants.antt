@@ -1,5 +1,5 @@
 use Rattle.std.proofs.Common.{◌≡◌, replicate}
-use Rattle.disk_store.specs.Memory.{MemState, empty_disk}
+use Rattle.disk_store.specs.Memory.{empty_disk}
 use Rattle.disk_store.proofs.bench.Bench.new.Given as goal
 
 abbrev pub invariant-loop : goal.invariant-loop

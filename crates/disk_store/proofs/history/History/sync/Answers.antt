@@ -1,5 +1,5 @@
-use Rattle.std.proofs.Common.{◌≡◌, ◌∷◌, [], ◌++◌, ◌+◌, length, rules, sym, ◌∙◌, ap, subst, arith, length-append}
-use Rattle.disk_store.specs.Disk.{DiskState, IsImage, at_rest, after_sync}
+use Rattle.std.proofs.Common.{◌≡◌, ◌∷◌, [], ◌++◌, length, rules, sym, ◌∙◌, ap, subst, arith, length-append}
+use Rattle.disk_store.specs.Disk.{DiskState, at_rest, after_sync}
 use Rattle.disk_store.specs.Records.{disk_after, bytes_written, ReadsAs}
 use Rattle.disk_store.specs.declared.history.Step.TheVariants.{Sync}
 use Rattle.disk_store.proofs.Records.{after_one_sync, written_same, reads_sync, reads_image}

@@ -1,5 +1,5 @@
 use Rattle.std.proofs.Common.{◌≡◌, ◌∷◌, [], ◌++◌, ◌+◌, ◌≤◌, max, length, rules, sym, ◌∙◌, ap, subst, arith, length-append}
-use Rattle.disk_store.specs.Disk.{DiskState, IsImage, over, at_rest, after_write}
+use Rattle.disk_store.specs.Disk.{DiskState, at_rest, after_write}
 use Rattle.disk_store.specs.Records.{Recorded, disk_after, bytes_written, ReadsAs}
 use Rattle.disk_store.specs.declared.history.Step.TheVariants.{Write}
 use Rattle.disk_store.proofs.Records.{after_one_write, written_more, reads_write, reads_image}

@@ -1,4 +1,4 @@
-use Rattle.std.proofs.Common.{◌≡◌, ◌+◌, length, ap, subst, arith, ℕ}
+use Rattle.std.proofs.Common.{◌≡◌, ◌+◌, length, ap, arith}
 use Rattle.node_journal.specs.Positions.{Position}
 use Rattle.node_journal.proofs.Appends.{moments_none, moments_one, moments_two, one_more, sealed_ready, both_sealed}
 use Rattle.node_journal.proofs.journal.Journal.append.Goals as goal

@@ -1,4 +1,4 @@
-use Rattle.std.proofs.Common.{◌≡◌, ◌≤◌, ◌+◌, ◌-◌, arith}
+use Rattle.std.proofs.Common.{◌≤◌, ◌+◌, ◌-◌, arith}
 use Rattle.node_journal.proofs.Founds.{frame_found}
 use Rattle.node_journal.proofs.reading.Reading.read_frame.Goals as goal
 
