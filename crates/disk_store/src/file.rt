@@ -1,0 +1,124 @@
+// A disk that is a file.
+ghost use Rattle.std.specs.Prelude.{◌≡◌, ℕ, ◌≤◌, List, None, length, IfOk, IfSome, MatchResult};
+ghost use Rattle.outside_io.specs.Causes.{HasCause, IsCount};
+ghost use Rattle.disk_store.specs.Fates.{one_more};
+
+use crate::Disk;
+use outside_io::Failed;
+use std::fs::{OpenFile, OpenOptions};
+use std::io::ErrorKind;
+use std::marker::Model;
+use std::os::unix::fs::FileExt;
+use std::rt::Files;
+
+/// A file, read and written at places without a buffer. It does not tell its contents; it counts the calls
+/// that failed.
+#[derive(Drop)]
+pub struct FileDisk<R: Files> {
+    file: R::File,
+    faults: u64,
+}
+
+impl<R: Files> Model for FileDisk<R> {
+    ghost use Rattle.std.specs.Prelude.{ℕ};
+    ghost use Rattle.outside_io.specs.Causes.{IsCount};
+
+    ghost Value = { ℕ };
+
+    ghost view = { λ f. f.faults };
+
+    ghost invariant = { λ f. IsCount f.faults };
+}
+
+impl<R: Files> FileDisk<R> {
+    /// The file at this path, made where it is missing; `Failed` where it cannot be opened.
+    pub fn over(rt: &R, path: &str) -> Result<FileDisk<R>, Failed>
+        ensures { IfOk result (λ disk. disk ≡ 0) }
+    {
+        let mut options = OpenOptions::new();
+        options.read(true).write(true).create(true);
+        match options.open(rt, path) {
+            Ok(file) => Ok(FileDisk { file, faults: 0 }),
+            Err(_) => Err(Failed),
+        }
+    }
+
+    /// Raises the count of faults, up to its last value.
+    fn count_fault(&mut self) -> Failed
+        ensures next { self.new ≡ one_more self.old }
+        ensures count { IsCount self.old }
+    {
+        self.faults = self.faults.saturating_add(1);
+        Failed
+    }
+}
+
+impl<R: Files> Disk for FileDisk<R>
+where
+    R::File: FileExt,
+{
+    ghost state = { λ _. None };
+
+    ghost past = { λ _. None };
+
+    ghost outlook = { λ _. None };
+
+    ghost faults = { λ f. f };
+
+    fn len(&mut self) -> Result<u64, Failed>
+        ensures after { MatchResult result (λ _. self.new ≡ self.old) (λ _. self.new ≡ one_more self.old) }
+        ensures cause { HasCause self.old self.new result }
+    {
+        match self.file.metadata() {
+            Ok(metadata) => Ok(metadata.len()),
+            Err(_) => Err(self.count_fault()),
+        }
+    }
+
+    fn read_at(&mut self, at: u64, into: &mut [u8]) -> Result<usize, Failed>
+        ensures after { MatchResult result (λ _. self.new ≡ self.old) (λ _. self.new ≡ one_more self.old) }
+        ensures bound { IfOk result (λ count. count ≤ length into.new) }
+        ensures cause { HasCause self.old self.new result }
+    {
+        match read_all_at(&self.file, at, into) {
+            Some(count) => Ok(count),
+            None => Err(self.count_fault()),
+        }
+    }
+
+    fn write_at(&mut self, at: u64, from: &[u8]) -> Result<(), Failed>
+        ensures after { MatchResult result (λ _. self.new ≡ self.old) (λ _. self.new ≡ one_more self.old) }
+        ensures cause { HasCause self.old self.new result }
+    {
+        match self.file.write_all_at(from, at) {
+            Ok(()) => Ok(()),
+            Err(_) => Err(self.count_fault()),
+        }
+    }
+
+    fn sync(&mut self) -> Result<(), Failed>
+        ensures after { MatchResult result (λ _. self.new ≡ self.old) (λ _. self.new ≡ one_more self.old) }
+        ensures cause { HasCause self.old self.new result }
+    {
+        match self.file.sync_all() {
+            Ok(()) => Ok(()),
+            Err(_) => Err(self.count_fault()),
+        }
+    }
+}
+
+/// Reads from a place on until the buffer is full or the file ends; `None` where a read failed.
+fn read_all_at<F: FileExt>(file: &F, at: u64, into: &mut [u8]) -> Option<usize>
+    ensures { IfSome result (λ count. count ≤ length into.new) }
+{
+    let mut count = 0;
+    for _ in 0..u64::MAX {
+        match file.read_at(&mut into[count..], at.wrapping_add(count as u64)) {
+            Ok(0) => return Some(count),
+            Ok(more) => count += more,
+            Err(error) if error.kind() == ErrorKind::Interrupted => {}
+            Err(_) => return None,
+        }
+    }
+    None
+}

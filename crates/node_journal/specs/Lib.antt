@@ -1,0 +1,6 @@
+pub mod Frames
+pub mod Appending
+pub mod Opening
+pub mod Positions
+pub mod Heads
+pub mod Reading
