@@ -12,6 +12,14 @@ use latency_assign::assign;
 use latency_assign::potentials::Potentials;
 use std::alloc::{AllocError, Global};
 
+fn sum_of(u: i64, v: i64) -> u64
+    requires row { IsInRange u }
+    requires column { IsInRange v }
+    ensures { pos result ≡ (u +ℤ v) }
+{
+    (u + v) as u64
+}
+
 // The two potentials of each site, added up: its latency in half microseconds.
 fn latencies(alloc: Global, u: &[i64], v: &[i64]) -> Result<Times, AllocError>
     requires size { length u.now ≡ length v.now }
@@ -22,7 +30,7 @@ fn latencies(alloc: Global, u: &[i64], v: &[i64]) -> Result<Times, AllocError>
 {
     let mut sums = Vec::with_capacity(alloc, u.len())?;
     for i in 0..u.len() {
-        sums.push((u[i] + v[i]) as u64)?;
+        sums.push(sum_of(u[i], v[i]))?;
     }
     Ok(Times::new(sums))
 }
