@@ -1,2 +1,4 @@
 pub mod Items
+pub mod LineFeed
+pub mod NameForms
 pub mod WholeText

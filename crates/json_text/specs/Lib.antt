@@ -1,3 +1,4 @@
 pub mod Arrays
+pub mod Names
 pub mod Reading
 pub mod Text

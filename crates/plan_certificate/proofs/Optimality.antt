@@ -24,7 +24,7 @@ sum_by-map f g (x ∷ xs) =
     whole ∙ ap (λ m. f (g x) + m) (sum_by-map f g xs) ∙ sym parts
 
 -- over a permutation of the places, the partners' numbers add up to all numbers
-partners_sum : (n : ℕ) (pairs p : List ℕ) → length p ≡ n → IsPermutation (range_with_len 0 n) pairs → sum_below (λ i. get_or p (get_or pairs i 0) 0) n ≡ sum p
+pub partners_sum : (n : ℕ) (pairs p : List ℕ) → length p ≡ n → IsPermutation (range_with_len 0 n) pairs → sum_below (λ i. get_or p (get_or pairs i 0) 0) n ≡ sum p
 partners_sum n pairs p long order =
     let f : ℕ → ℕ = λ j. get_or p j 0 in
     let pairs_long : length pairs ≡ n = length_permutation (range_with_len 0 n) pairs order ∙ length-range_with_len 0 n in

@@ -1,14 +1,17 @@
-//! Judges a plan: the first pair of sites that it leaves short, and whether its certificate proves it optimal.
-//! The layer above uses `check`, whose verdict is exact, and at `Optimal` no plan has a smaller average.
+//! Plans a matrix of round trips, and judges a plan: the first pair of sites that it leaves short, and whether its
+//! certificate proves it optimal. The layer above uses `plan_of`, whose plan no other over the same round trips beats,
+//! and `check`, whose verdict is exact.
 #![tactic(auto)]
 
 mod judge;
 mod laws;
 mod pairing;
+mod planning;
 mod short;
 mod verdict;
 
 pub use judge::check;
 pub use laws::certificates_show_optimal;
+pub use planning::plan_of;
 pub use short::first_short;
 pub use verdict::Verdict;

@@ -1,0 +1,4 @@
+pub mod Lowering
+pub mod Joining
+pub mod Handing
+pub mod Results

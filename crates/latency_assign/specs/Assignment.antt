@@ -1,0 +1,36 @@
+-- What is assigned to the sites of a matrix: potentials, and a partner for each site.
+use Rattle.std.specs.Prelude.{◌≡◌, ℕ, ◌<◌, ℤ, pos, ◌+ℤ◌, ◌≤ℤ◌, List, length, All, slice_index, slice_index_or}
+use Rattle.std.specs.List.{range_with_len}
+use Rattle.std.specs.List.Sorted.{IsPermutation}
+use Rattle.helios_model.specs.Limits.{longest_trip}
+use Rattle.helios_model.specs.Setting.{Distances, trip_at}
+use Rattle.latency_assign.specs.declared.potentials.Potentials.{Potentials}
+
+abbrev pub count_of : Distances → ℕ
+count_of m = length m.names
+
+-- the numbers of the sites, in order
+abbrev pub sites_of : Distances → List ℕ
+sites_of m = range_with_len 0 (count_of m)
+
+-- the round trip between two sites, in microseconds
+abbrev pub distance : Distances → ℕ → ℕ → ℕ
+distance m i j = trip_at (count_of m) m.trips i j
+
+abbrev pub potential : List ℤ → ℕ → ℤ
+potential potentials i = slice_index_or potentials i (pos 0)
+
+-- at least 0 and at most the longest round trip
+abbrev pub IsInRange : ℤ → Type 0
+IsInRange p = (pos 0 ≤ℤ p) × (p ≤ℤ pos longest_trip)
+
+-- Each site has a partner of its own. The potentials of any two sites together reach their round trip, and those of a
+-- site and its partner are their round trip.
+pub record IsAssignment (m : Distances) (p : Potentials) : Type 0 where
+  pub rows : length p.u ≡ count_of m
+  pub columns : length p.v ≡ count_of m
+  pub permutation : IsPermutation (sites_of m) p.s
+  pub reached : (i j : ℕ) → i < count_of m → j < count_of m → pos (distance m i j) ≤ℤ (potential p.u i +ℤ potential p.v j)
+  pub tight : (i : ℕ) → i < count_of m → (potential p.u i +ℤ potential p.v (slice_index p.s i)) ≡ pos (distance m i (slice_index p.s i))
+  pub rows_in_range : All IsInRange p.u
+  pub columns_in_range : All IsInRange p.v

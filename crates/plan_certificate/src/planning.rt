@@ -1,0 +1,53 @@
+ghost use Rattle.std.specs.Prelude.{◌≡◌, ℕ, ◌<◌, pos, ◌+ℤ◌, All, IfOk, length, slice_index, sum};
+ghost use Rattle.helios_model.specs.Certificate.{IsCertificate};
+ghost use Rattle.helios_model.specs.Optimal.{IsOptimal};
+ghost use Rattle.helios_model.specs.Setting.{IsAccepted};
+ghost use Rattle.latency_assign.specs.Assignment.{IsInRange, potential};
+ghost use Rattle.plan_certificate.specs.Judgement.{verdict_of};
+
+use crate::verdict::Verdict;
+use helios_model::numbers::Times;
+use helios_model::plan::{Certificate, Matrix, Plan};
+use latency_assign::assign;
+use latency_assign::potentials::Potentials;
+use std::alloc::{AllocError, Global};
+
+fn sum_of(u: i64, v: i64) -> u64
+    requires row { IsInRange u }
+    requires column { IsInRange v }
+    ensures { pos result ≡ (u +ℤ v) }
+{
+    (u + v) as u64
+}
+
+// The two potentials of each site, added up: its latency in half microseconds.
+fn latencies(alloc: Global, u: &[i64], v: &[i64]) -> Result<Times, AllocError>
+    requires size { length u.now ≡ length v.now }
+    requires rows { All IsInRange u.now }
+    requires columns { All IsInRange v.now }
+    ensures size { IfOk result (λ sums. length sums ≡ length u.now) }
+    ensures sums { IfOk result (λ sums. (i : ℕ) → i < length u.now → pos (slice_index sums i) ≡ (potential u.now i +ℤ potential v.now i)) }
+{
+    let mut sums = Vec::with_capacity(alloc, u.len())?;
+    for i in 0..u.len() {
+        sums.push(sum_of(u[i], v[i]))?;
+    }
+    Ok(Times::new(sums))
+}
+
+/// The plan of a matrix with the least average latency, and the pairing that proves it. Only want of memory is an error.
+#[tactic(auto, using(crate::proofs::Planned::is_plan, crate::proofs::Planned::is_accepted, crate::proofs::Planned::is_certified, crate::proofs::Planned::is_optimal, crate::proofs::Planned::is_judged))]
+pub fn plan_of(alloc: Global, m: &Matrix) -> Result<(Plan, Certificate), AllocError>
+    ensures names { IfOk result (λ made. made.0.names ≡ m.now.names) }
+    ensures trips { IfOk result (λ made. made.0.trips ≡ m.now.trips) }
+    ensures accepted { IfOk result (λ made. IsAccepted made.0) }
+    ensures certified { IfOk result (λ made. IsCertificate made.0 made.1.pair) }
+    ensures judged { IfOk result (λ made. verdict_of made.0 made.1.pair ≡ Verdict.Optimal (sum made.0.latencies)) }
+    ensures optimal { IfOk result (λ made. IsOptimal made.0) }
+{
+    let Potentials { u, v, s } = assign(alloc, m)?;
+    let latencies = latencies(alloc, u.items(), v.items())?;
+    let _count = m.count();
+    let plan = Plan::new(m.names().copy()?, m.trips().copy()?, latencies);
+    Ok((plan, Certificate { pair: s }))
+}

@@ -1,0 +1,4 @@
+pub mod Checked
+pub mod FirstPlaces
+pub mod Mirrors
+pub mod RowSteps

@@ -1,0 +1,14 @@
+//! Reads a matrix: the sites by name and the round trips between them.
+//! The layer above uses that a text is read exactly as `matrix_of_text` says: its matrix, or the first rule that it breaks.
+#![tactic(auto)]
+
+mod checks;
+mod reading;
+mod refusal;
+mod rows;
+
+pub use reading::read_matrix;
+pub use refusal::MatrixRefusal;
+
+#[cfg(test)]
+mod tests;
