@@ -8,7 +8,9 @@ use Rattle.std.proofs.lemmas.List.Sums.{AllPass-from_list_all}
 use Rattle.helios_model.specs.Distinct.{all_differ}
 use Rattle.helios_model.specs.Limits.{IsName, IsNameByte, longest_trip, greatest_latency}
 use Rattle.helios_model.specs.Setting.{IsMatrix, IsPlan, trip_at}
-use Rattle.commit_offsets.specs.Forms.{is_name_byte, is_name, are_names, is_symmetric_row, is_symmetric, has_zero_diagonal}
+use Rattle.json_text.specs.Names.{is_name}
+use Rattle.json_text.proofs.NameForms.{not_zero, name_says}
+use Rattle.commit_offsets.specs.Forms.{are_names, is_symmetric_row, is_symmetric, has_zero_diagonal}
 use Rattle.commit_offsets.specs.Reading.{HaveForms}
 use Rattle.commit_offsets.specs.declared.data.PlanFields.{PlanFields}
 use Rattle.commit_offsets.proofs.Below.{passes_below}
@@ -17,23 +19,8 @@ use Rattle.commit_offsets.proofs.FieldForms.{both}
 pub all_within : (limit : ℕ) (numbers : List ℕ) → list_all (λ n. nat_le n limit) numbers ≡ true → All (λ n. n ≤ limit) numbers
 all_within limit numbers h = All-weaker (λ n. nat_le n limit ≡ true) (λ n. n ≤ limit) (λ n. leb-true n limit) numbers (AllPass-from_list_all (λ n. nat_le n limit) numbers h)
 
-not_zero : (n : ℕ) → not (n == 0) ≡ true → 1 ≤ n
-not_zero zero h = cc
-not_zero (suc n) h = omega arith
-
-name_byte : (b : ℕ) → is_name_byte b ≡ true → IsNameByte b
-name_byte b h = (let parts : (nat_le 33 b ≡ true) × (nat_le b 126 ≡ true) = both (nat_le 33 b) (nat_le b 126) h in (leb-true 33 b parts.0, leb-true b 126 parts.1))
-
 name_of_test : (bytes : List ℕ) → is_name bytes ≡ true → IsName bytes
-unfolding is_name
-name_of_test bytes h =
-    let outer : (not (length bytes == 0) && nat_le (length bytes) 32 ≡ true) × (list_all is_name_byte bytes ≡ true) = both (not (length bytes == 0) && nat_le (length bytes) 32) (list_all is_name_byte bytes) h in
-    let sizes : (not (length bytes == 0) ≡ true) × (nat_le (length bytes) 32 ≡ true) = both (not (length bytes == 0)) (nat_le (length bytes) 32) outer.0 in
-    record {
-      some = not_zero (length bytes) sizes.0;
-      most = leb-true (length bytes) 32 sizes.1;
-      printable = All-weaker (λ b. is_name_byte b ≡ true) IsNameByte name_byte bytes (AllPass-from_list_all is_name_byte bytes outer.1);
-    }
+name_of_test bytes h = (let said = name_says bytes h in record { some = said.0; most = said.1.0; printable = said.1.1 })
 
 matrix_of_forms : (f : PlanFields) → HaveForms f → All (λ trip. trip ≤ longest_trip) f.trips → IsMatrix f.names f.trips
 unfolding are_names is_symmetric has_zero_diagonal

@@ -4,7 +4,8 @@ use Rattle.std.specs.Prelude.{nat_le, ◌==◌, not}
 use Rattle.std.specs.List.{list_all}
 use Rattle.std.proofs.lemmas.Bool.{leb-true}
 use Rattle.helios_model.specs.Distinct.{all_differ}
-use Rattle.commit_offsets.specs.Forms.{is_name, are_names}
+use Rattle.json_text.specs.Names.{is_name}
+use Rattle.commit_offsets.specs.Forms.{are_names}
 
 pub both : (b c : Bool) → (b && c) ≡ true → (b ≡ true) × (c ≡ true)
 both true c h = (refl, h)

@@ -4,6 +4,7 @@ use Rattle.std.specs.List.{list_all, range_with_len}
 use Rattle.helios_model.specs.Distinct.{all_differ}
 use Rattle.helios_model.specs.Setting.{trip_at}
 use Rattle.json_text.specs.Arrays.{whole_number, integer, array_of, row_of, square_of}
+use Rattle.json_text.specs.Names.{is_name}
 use Rattle.serde_json.specs.Data.{Data}
 use Rattle.serde_json.specs.Find.{as_str}
 
@@ -14,14 +15,6 @@ passing test x = if test x then Some x else None
 -- the version of plans that is read
 unfoldable pub version_of : Data → Option ℕ
 version_of d = option_and_then (passing (λ n. n == 1)) (whole_number d)
-
--- whether a byte is one of printable ASCII without the blank
-abbrev pub is_name_byte : ℕ → Bool
-is_name_byte b = nat_le 33 b && nat_le b 126
-
--- whether the bytes are a site's name
-unfoldable pub is_name : List ℕ → Bool
-is_name bytes = not (length bytes == 0) && nat_le (length bytes) 32 && list_all is_name_byte bytes
 
 -- whether the texts are names of sites: 1 to 32 of them, no two alike
 unfoldable pub are_names : List (List ℕ) → Bool

@@ -2,28 +2,16 @@ ghost use Rattle.std.specs.Prelude.{◌≡◌, ◌*◌, ◌<◌, ◌≤◌, leng
 ghost use Rattle.std.specs.List.{list_all, list_any};
 ghost use Rattle.helios_model.specs.Distinct.{all_differ, same_text};
 ghost use Rattle.helios_model.specs.Setting.{trip_at};
-ghost use Rattle.commit_offsets.specs.Forms.{is_name_byte, is_name, are_names, is_symmetric_row, is_symmetric, has_zero_diagonal};
+ghost use Rattle.json_text.specs.Names.{is_name};
+ghost use Rattle.commit_offsets.specs.Forms.{are_names, is_symmetric_row, is_symmetric, has_zero_diagonal};
 
 use helios_model::names::Name;
-
-fn are_printable(bytes: &[u8]) -> bool
-    ensures { result ≡ list_all is_name_byte bytes.now }
-{
-    bytes.iter().all(|b| *b >= 33 && *b <= 126)
-}
-
-#[tactic(auto, unfolding(crate::specs::Forms::is_name))]
-fn is_name(name: &Name) -> bool
-    ensures { result ≡ is_name name.now }
-{
-    let bytes = name.text().as_bytes();
-    !bytes.is_empty() && bytes.len() <= 32 && are_printable(bytes)
-}
+use json_text::is_name;
 
 fn all_named(names: &[Name]) -> bool
     ensures { result ≡ list_all is_name names.now }
 {
-    names.iter().all(|name| is_name(name))
+    names.iter().all(|name| is_name(name.text()))
 }
 
 fn is_among(names: &[Name], name: &Name) -> bool

@@ -6,10 +6,13 @@ mod data;
 mod fields;
 mod forms;
 mod offsets;
+mod printing;
 mod reading;
 mod refusal;
+mod values;
 
 pub use offsets::offset;
+pub use printing::print_plan;
 pub use reading::{plan_from_value, read_plan};
 pub use refusal::{FieldName, PlanRefusal};
 

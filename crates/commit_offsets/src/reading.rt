@@ -78,7 +78,7 @@ fn same_total(plan: &Plan, given: u64) -> Result<(), PlanRefusal>
     }
 }
 
-fn sum_of(latencies: &[u64]) -> u64
+pub(crate) fn sum_of(latencies: &[u64]) -> u64
     requires { sum latencies.now < 2 ^ 64 }
     ensures { result ≡ sum latencies.now }
 {

@@ -203,8 +203,8 @@ read-fed : (t : List ℕ) → read (fed t) ≡ read t
 read-fed t = ap (λ ts. option_and_then Rattle.serde_json.specs.Read.of_json (option_and_then (λ p. Rattle.json.specs.Json.if_last p.0 p.1) (Rattle.json.specs.Json.value 127 ts))) (ap (punctuate fresh) (lex-fed between t))
 
 -- a text with a line feed behind it says what the text says
-pub json_of-fed : (t : List ℕ) (d : Data) → IsUtf8 t → read t ≡ Some d → json_of (t ++ 10 ∷ []) ≡ Some d
+pub json_of_fed : (t : List ℕ) (d : Data) → IsUtf8 t → read t ≡ Some d → json_of (t ++ 10 ∷ []) ≡ Some d
 unfolding json_of
-json_of-fed t d utf8 is =
+json_of_fed t d utf8 is =
     let line_feed : IsUtf8 (10 ∷ []) = IsUtf8-are_ascii (10 ∷ []) refl in
     ap (λ b. cond b (read (fed t)) None) (is_utf8-from_IsUtf8 (fed t) (IsUtf8-append t (10 ∷ []) utf8 line_feed)) ∙ read-fed t ∙ is
