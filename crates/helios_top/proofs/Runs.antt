@@ -3,9 +3,11 @@ use Rattle.std.proofs.Common.{◌≡◌, ◌≢◌, ℕ, ◌≤◌, ◌⊎◌, i
 use Rattle.std.specs.Io.KnownBytes.{Appends, IsAtEnd}
 use Rattle.commit_offsets.specs.declared.refusal.PlanRefusal.{PlanRefusal}
 use Rattle.commit_offsets.specs.Reading.{plan_of_text}
+use Rattle.rtt_matrix.specs.declared.refusal.MatrixRefusal.{MatrixRefusal}
+use Rattle.rtt_matrix.specs.Reading.{matrix_of_text}
 use Rattle.helios_model.specs.declared.plan.Certificate.{Certificate}
 use Rattle.helios_model.specs.Laws.Safe.{IsSafe}
-use Rattle.helios_model.specs.Setting.{Setting}
+use Rattle.helios_model.specs.Setting.{Distances, Setting}
 use Rattle.outside_io.specs.Causes.{Rose}
 use Rattle.outside_io.specs.Whole.{AppendsPrefix, IsOverLimit, IsWholeInput, TakesAtMost}
 use Rattle.outside_io.proofs.Reading.{takes_none}
@@ -13,16 +15,16 @@ use Rattle.plan_certificate.specs.declared.verdict.Verdict.{Verdict}
 use Rattle.plan_certificate.specs.declared.verdict.Verdict.TheVariants as verdicts
 use Rattle.schedule_replay.specs.declared.schedule.Schedule.{Schedule}
 use Rattle.helios_top.specs.declared.words.Command.{Command}
-use Rattle.helios_top.specs.declared.words.Command.TheVariants.{Check, Replay}
+use Rattle.helios_top.specs.declared.words.Command.TheVariants.{Check, Plan, Replay}
 use Rattle.helios_top.specs.declared.ending.Refusal.{Refusal}
 use Rattle.helios_top.specs.declared.ending.Answer.{Answer}
 use Rattle.helios_top.specs.declared.ending.Answer.TheVariants.{Judged, Printed, Refused}
 use Rattle.helios_top.specs.declared.ending.Ending.{Ending}
 use Rattle.helios_top.specs.declared.ending.Ending.TheVariants.{Usage, ReadFault, NoMemory, TooLarge, Answered}
-use Rattle.helios_top.specs.Answer.{IsAnswer, IsCheckAnswer, IsReplayAnswer, IsVerdict, report_for, world_of}
+use Rattle.helios_top.specs.Answer.{IsAnswer, IsPlanAnswer, IsCheckAnswer, IsReplayAnswer, IsVerdict, report_for, world_of}
 use Rattle.helios_top.specs.Ending.{answer_status, answer_text, line, status_of, text_of, verdict_status, verdict_text}
 use Rattle.helios_top.specs.Reading.{schedule_of}
-use Rattle.helios_top.specs.Run.{most_input_bytes, Answers, Ends, IsAccepted, IsDone, IsFault, IsOfForm, IsOtherForm, IsRefused, IsStatus, IsTooLarge, MayEnd, ReadWhole, WroteOneLine, WroteOptimal, WroteRefusal, WroteVerdict}
+use Rattle.helios_top.specs.Run.{most_input_bytes, Answers, Ends, IsAccepted, IsDone, IsFault, IsOfForm, IsOtherForm, IsRefused, IsStatus, IsTooLarge, MayEnd, ReadWhole, WroteOneLine, WroteOptimal, WrotePlan, WroteRefusal, WroteVerdict}
 
 -- ---- which ending has each status
 
@@ -180,10 +182,39 @@ check_wrote taken taken' status (Ok read) answer h done due wrote = record {
 check_wrote taken taken' status (Err reason) answer e done due wrote =
     let is : answer_status answer ≡ 5 = ap answer_status e in elim done [ inl zero ↦ absurd (omega arith) | inr nine ↦ absurd (omega arith) ]
 
--- of the two commands only `check` gives a verdict
+plan_refuses : (said : Result Distances MatrixRefusal) (refusal : Refusal) → IsPlanAnswer said (Refused refusal) → IsErr said
+plan_refuses (Ok matrix) refusal h = let e = h.printed in cc
+plan_refuses (Err reason) refusal e = refl
+
+plan_accepts : (said : Result Distances MatrixRefusal) (answer : Answer) → IsPlanAnswer said answer → IsDone (answer_status answer) → IsOk said
+plan_accepts (Ok matrix) answer h done = refl
+plan_accepts (Err reason) answer e done = let is : answer_status answer ≡ 5 = ap answer_status e in elim done [ inl zero ↦ absurd (omega arith) | inr nine ↦ absurd (omega arith) ]
+
+plan_prints : (said : Result Distances MatrixRefusal) (answer : Answer) → IsPlanAnswer said answer → answer_status answer ≢ 9
+plan_prints (Ok matrix) answer h nine = let is : answer_status answer ≡ 0 = ap answer_status h.printed in absurd (omega arith)
+plan_prints (Err reason) answer e nine = let is : answer_status answer ≡ 5 = ap answer_status e in absurd (omega arith)
+
+-- `plan` wrote the text of an optimal plan of the matrix
+plan_wrote : (taken taken' : Option (List ℕ)) (said : Result Distances MatrixRefusal) (answer : Answer) → IsPlanAnswer said answer → IsDone (answer_status answer)
+    → Appends taken taken' (answer_text answer) → IsOkAnd said (λ matrix. WrotePlan taken taken' matrix)
+plan_wrote taken taken' (Ok matrix) answer h done wrote = record {
+  plan = h.plan;
+  pair = h.pair;
+  names = h.names;
+  trips = h.trips;
+  accepted = h.accepted;
+  certificate = h.certificate;
+  optimal = h.optimal;
+  written = subst (λ (a : Answer). Appends taken taken' (answer_text a)) h.printed wrote;
+}
+plan_wrote taken taken' (Err reason) answer e done wrote =
+    let is : answer_status answer ≡ 5 = ap answer_status e in elim done [ inl zero ↦ absurd (omega arith) | inr nine ↦ absurd (omega arith) ]
+
+-- of the commands only `check` gives a verdict
 only_check : (command : Command) (bytes : List ℕ) (answer : Answer) → IsAnswer command bytes answer → answer_status answer ≡ 9 → command ≡ Check
 only_check Replay bytes answer e nine = absurd (replay_prints (schedule_of bytes) answer e nine)
 only_check Check bytes answer h nine = refl
+only_check Plan bytes answer h nine = absurd (plan_prints (matrix_of_text bytes) answer h nine)
 
 -- the verdict of status 0 is that the plan is optimal
 verdict_optimal : (taken taken' : Option (List ℕ)) (plan : Setting) (pair : List ℕ) (verdict : Verdict) → verdict_status verdict ≡ 0 → IsVerdict plan pair verdict
@@ -206,10 +237,12 @@ read_optimal taken taken' status (Err reason) zero h = absurd h
 refused_form : (command : Command) (bytes : List ℕ) (refusal : Refusal) → IsAnswer command bytes (Refused refusal) → IsOtherForm command bytes
 refused_form Replay bytes refusal e = replay_refuses (schedule_of bytes) refusal e
 refused_form Check bytes refusal h = check_refuses (plan_of_text bytes) refusal h
+refused_form Plan bytes refusal h = plan_refuses (matrix_of_text bytes) refusal h
 
 accepted_form : (command : Command) (bytes : List ℕ) (answer : Answer) → IsAnswer command bytes answer → IsDone (answer_status answer) → IsOfForm command bytes
 accepted_form Replay bytes answer e done = replay_accepts (schedule_of bytes) answer e done
 accepted_form Check bytes answer h done = check_accepts (plan_of_text bytes) answer h done
+accepted_form Plan bytes answer h done = plan_accepts (matrix_of_text bytes) answer h done
 
 -- no input is of a command's form and of another
 one_of_both : {T E : Type 0} (r : Result T E) → IsOk r → IsErr r → ⊥
@@ -219,6 +252,7 @@ one_of_both (Err e) ok err = cc
 one_form : (command : Command) (bytes : List ℕ) → IsOfForm command bytes → IsOtherForm command bytes → ⊥
 one_form Replay bytes accepted refused = no_schedule (schedule_of bytes) accepted refused
 one_form Check bytes accepted refused = one_of_both (plan_of_text bytes) accepted refused
+one_form Plan bytes accepted refused = one_of_both (matrix_of_text bytes) accepted refused
 
 -- what is told
 if_told : (left : Option (List ℕ)) (P : List ℕ → Type 0) → ((bytes : List ℕ) → left ≡ Some bytes → P bytes) → IfSome left P
@@ -473,6 +507,15 @@ module _ {named : Option Command} {left left' : Option (List ℕ)} {reads reads'
   optimal h check zero =
       let r = checked h check (inl zero) in
       record { bytes = r.bytes; is_whole = r.is_whole; fits = r.fits; holds = read_optimal taken taken' status (plan_of_text r.bytes) zero r.holds }
+
+  pub planned : Ends named left left' reads reads' taken taken' writes writes' status → named ≡ Some Plan → status ≡ 0
+      → ReadWhole left left' (λ text. IsOkAnd (matrix_of_text text) (λ matrix. WrotePlan taken taken' matrix))
+  planned h plan zero =
+      let p = answered_may h (inl zero) in
+      let a : Answers named left left' p.0 = p.1.0 in
+      let is : a.command ≡ Plan = cc (a.is_named, plan) in
+      let answer = subst (λ (command : Command). IsAnswer command a.bytes p.0) is a.is_answer in
+      record { bytes = a.bytes; is_whole = a.is_whole; fits = a.fits; holds = plan_wrote taken taken' (matrix_of_text a.bytes) p.0 answer (inl (sym p.1.1 ∙ zero)) p.1.2 }
 
 -- nothing of an input that stays as it was is taken
 pub takes_nothing : (left : Option (List ℕ)) (most : ℕ) → TakesAtMost most left left

@@ -2,9 +2,13 @@
 use Rattle.std.specs.Prelude.{◌≡◌, ℕ, List, Option, Some, None, Result, Ok, Err}
 use Rattle.helios_model.specs.declared.plan.Certificate.{Certificate}
 use Rattle.helios_model.specs.Optimal.{IsOptimal}
-use Rattle.helios_model.specs.Setting.{Setting}
+use Rattle.helios_model.specs.Certificate.{IsCertificate}
+use Rattle.helios_model.specs.Setting.{Distances, Setting, IsAccepted}
 use Rattle.commit_offsets.specs.declared.refusal.PlanRefusal.{PlanRefusal}
 use Rattle.commit_offsets.specs.Reading.{plan_of_text}
+use Rattle.commit_offsets.specs.Printing.{plan_text}
+use Rattle.rtt_matrix.specs.declared.refusal.MatrixRefusal.{MatrixRefusal}
+use Rattle.rtt_matrix.specs.Reading.{matrix_of_text}
 use Rattle.plan_certificate.specs.declared.verdict.Verdict.{Verdict}
 use Rattle.plan_certificate.specs.declared.verdict.Verdict.TheVariants as verdicts
 use Rattle.plan_certificate.specs.Says.{Says}
@@ -13,8 +17,8 @@ use Rattle.helios_model.specs.Laws.Safe.{IsSafe}
 use Rattle.helios_model.specs.World.{World}
 use Rattle.schedule_replay.specs.Report.{reached, report_of}
 use Rattle.helios_top.specs.declared.words.Command.{Command}
-use Rattle.helios_top.specs.declared.words.Command.TheVariants.{Check, Replay}
-use Rattle.helios_top.specs.declared.ending.Refusal.TheVariants.{OfPlan, Unbuilt}
+use Rattle.helios_top.specs.declared.words.Command.TheVariants.{Check, Plan, Replay}
+use Rattle.helios_top.specs.declared.ending.Refusal.TheVariants.{OfMatrix, OfPlan, Unbuilt}
 use Rattle.helios_top.specs.declared.ending.Answer.{Answer}
 use Rattle.helios_top.specs.declared.ending.Answer.TheVariants.{Judged, Printed, Refused}
 use Rattle.helios_top.specs.Reading.{schedule_of}
@@ -54,7 +58,24 @@ abbrev pub IsCheckAnswer : Result (Setting × Certificate) PlanRefusal → Answe
 IsCheckAnswer (Err refusal) answer = answer ≡ Refused (OfPlan refusal)
 IsCheckAnswer (Ok read) answer = (verdict : Verdict) × (IsVerdict read.0 read.1.pair verdict × (answer ≡ Judged verdict))
 
+-- the text of an accepted plan over the matrix is printed, with a pairing that shows that no such plan has a smaller average
+pub record IsPlanned (matrix : Distances) (answer : Answer) : Type 0 where
+  pub plan : Setting
+  pub pair : List ℕ
+  pub names : plan.names ≡ matrix.names
+  pub trips : plan.trips ≡ matrix.trips
+  pub accepted : IsAccepted plan
+  pub certificate : IsCertificate plan pair
+  pub optimal : IsOptimal plan
+  pub printed : answer ≡ Printed (plan_text plan pair)
+
+-- `plan` answers with the refusal of the text, or with an optimal plan of the matrix that it says
+abbrev pub IsPlanAnswer : Result Distances MatrixRefusal → Answer → Type 0
+IsPlanAnswer (Err refusal) answer = answer ≡ Refused (OfMatrix refusal)
+IsPlanAnswer (Ok matrix) answer = IsPlanned matrix answer
+
 -- what a command answers to an input that it reads whole
 abbrev pub IsAnswer : Command → List ℕ → Answer → Type 0
 IsAnswer Replay text answer = IsReplayAnswer (schedule_of text) answer
 IsAnswer Check text answer = IsCheckAnswer (plan_of_text text) answer
+IsAnswer Plan text answer = IsPlanAnswer (matrix_of_text text) answer

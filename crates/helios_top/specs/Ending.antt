@@ -1,10 +1,11 @@
 -- The status and the text of each end of a run.
 use Rattle.std.specs.Prelude.{ℕ, List, [], ◌∷◌, ◌++◌, codes, decimal}
 use Rattle.commit_offsets.specs.Lines as plan
+use Rattle.rtt_matrix.specs.Lines as matrix
 use Rattle.plan_certificate.specs.declared.verdict.Verdict.{Verdict}
 use Rattle.plan_certificate.specs.declared.verdict.Verdict.TheVariants as verdicts
 use Rattle.helios_top.specs.declared.ending.Refusal.{Refusal}
-use Rattle.helios_top.specs.declared.ending.Refusal.TheVariants.{OfPlan, Unbuilt}
+use Rattle.helios_top.specs.declared.ending.Refusal.TheVariants.{OfMatrix, OfPlan, Unbuilt}
 use Rattle.helios_top.specs.declared.ending.Answer.{Answer}
 use Rattle.helios_top.specs.declared.ending.Answer.TheVariants.{Judged, Printed, Refused}
 use Rattle.helios_top.specs.declared.ending.Ending.{Ending}
@@ -18,6 +19,7 @@ line text = text ++ 10 ∷ []
 abbrev pub refusal_text : Refusal → List ℕ
 refusal_text Unbuilt = codes "unbuilt"
 refusal_text (OfPlan refusal) = plan.refusal_text refusal
+refusal_text (OfMatrix refusal) = matrix.refusal_text refusal
 
 -- a verdict, with its numbers
 abbrev pub verdict_text : Verdict → List ℕ

@@ -1,15 +1,17 @@
 -- When a run may end in each way, and what it writes.
 use Rattle.std.specs.Prelude.{◌≡◌, ℕ, ◌<◌, ◌≤◌, ◌⊎◌, List, ◌++◌, Option, Some, None, IsSome, IsOk, IsErr, length, codes, decimal, sum}
 use Rattle.std.specs.Io.KnownBytes.{Appends}
+use Rattle.commit_offsets.specs.Printing.{plan_text}
 use Rattle.commit_offsets.specs.Reading.{plan_of_text}
+use Rattle.rtt_matrix.specs.Reading.{matrix_of_text}
 use Rattle.helios_model.specs.Certificate.{IsCertificate}
 use Rattle.helios_model.specs.Optimal.{IsOptimal}
-use Rattle.helios_model.specs.Setting.{Setting, IsAccepted as IsAcceptedPlan}
+use Rattle.helios_model.specs.Setting.{Distances, Setting, IsAccepted as IsAcceptedPlan}
 use Rattle.outside_io.specs.Causes.{Rose}
 use Rattle.outside_io.specs.Whole.{AppendsPrefix, IsOverLimit, IsWholeInput, TakesAtMost}
 use Rattle.plan_certificate.specs.declared.verdict.Verdict.{Verdict}
 use Rattle.helios_top.specs.declared.words.Command.{Command}
-use Rattle.helios_top.specs.declared.words.Command.TheVariants.{Check, Replay}
+use Rattle.helios_top.specs.declared.words.Command.TheVariants.{Check, Plan, Replay}
 use Rattle.helios_top.specs.declared.ending.Refusal.{Refusal}
 use Rattle.helios_top.specs.declared.ending.Answer.{Answer}
 use Rattle.helios_top.specs.declared.ending.Answer.TheVariants.{Refused}
@@ -85,6 +87,7 @@ IsTooLarge bytes = most_input_bytes < length bytes
 abbrev pub IsOtherForm : Command → List ℕ → Type 0
 IsOtherForm Replay bytes = schedule_of bytes ≡ None
 IsOtherForm Check bytes = IsErr (plan_of_text bytes)
+IsOtherForm Plan bytes = IsErr (matrix_of_text bytes)
 
 -- the words name a command, which refuses this input
 abbrev pub IsRefused : Option Command → List ℕ → Type 0
@@ -101,6 +104,7 @@ WroteRefusal taken taken' (Some command) bytes = (IsTooLarge bytes → Appends t
 abbrev pub IsOfForm : Command → List ℕ → Type 0
 IsOfForm Replay bytes = IsSome (schedule_of bytes)
 IsOfForm Check bytes = IsOk (plan_of_text bytes)
+IsOfForm Plan bytes = IsOk (matrix_of_text bytes)
 
 -- the words name a command, which accepts this input
 abbrev pub IsAccepted : Option Command → List ℕ → Type 0
@@ -124,3 +128,14 @@ pub record WroteOptimal (taken taken' : Option (List ℕ)) (plan : Setting) (pai
   pub certificate : IsCertificate plan pair
   pub optimal : IsOptimal plan
   pub written : Appends taken taken' (line (codes "optimal " ++ decimal (sum plan.latencies)))
+
+-- an accepted plan over the matrix, with a pairing that shows that no such plan has a smaller average, was written as its text
+pub record WrotePlan (taken taken' : Option (List ℕ)) (matrix : Distances) : Type 0 where
+  pub plan : Setting
+  pub pair : List ℕ
+  pub names : plan.names ≡ matrix.names
+  pub trips : plan.trips ≡ matrix.trips
+  pub accepted : IsAcceptedPlan plan
+  pub certificate : IsCertificate plan pair
+  pub optimal : IsOptimal plan
+  pub written : Appends taken taken' (plan_text plan pair)

@@ -4,6 +4,7 @@ ghost use Rattle.helios_top.specs.Ending.{answer_status, answer_text, refusal_te
 use commit_offsets::PlanRefusal;
 use helios_model::numbers::Bytes;
 use plan_certificate::Verdict;
+use rtt_matrix::MatrixRefusal;
 use std::alloc::{AllocError, Global};
 use std::fmt;
 
@@ -18,6 +19,8 @@ pub enum Refusal {
     Unbuilt,
     /// The text of a plan breaks a rule.
     OfPlan(PlanRefusal),
+    /// The text of a matrix breaks a rule.
+    OfMatrix(MatrixRefusal),
 }
 
 /// What a command comes to over an input that it read whole.
@@ -53,6 +56,7 @@ impl fmt::Display for Refusal {
         match self {
             Refusal::Unbuilt => write!(f, "unbuilt"),
             Refusal::OfPlan(refusal) => write!(f, "{refusal}"),
+            Refusal::OfMatrix(refusal) => write!(f, "{refusal}"),
         }
     }
 }

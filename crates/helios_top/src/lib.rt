@@ -9,6 +9,7 @@
 mod check;
 mod ending;
 mod json;
+mod planning;
 mod reading;
 mod replay;
 mod spelling;

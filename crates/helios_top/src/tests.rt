@@ -132,6 +132,44 @@ fn answers_each_input(rt: HostRuntime) -> Result<(), Fail> {
     Ok(())
 }
 
+/// What the plan of a matrix is judged to be, or the line that refuses the matrix.
+fn judged_plan(alloc: Global, matrix: &str) -> Result<Vec<u8>, AllocError> {
+    let input = matrix.as_bytes().to_vec(alloc)?;
+    let planned = run_over(alloc, &["plan"], input, 7, &[], &[])?;
+    if planned.status != 0 {
+        return Ok(planned.written);
+    }
+    let judged = run_over(alloc, &["check"], planned.written, 1, &[], &[])?;
+    Ok(judged.written)
+}
+
+#[test]
+fn plans_each_matrix(rt: HostRuntime) -> Result<(), Fail> {
+    let cases = [
+        (r#"{"names":["A"],"rtt":[[0]]}"#, "optimal 0\n"),
+        (r#"{"names":["A","B","C"],"rtt":[[0,100,100],[100,0,0],[100,0,0]]}"#, "optimal 200\n"),
+        (r#"{"names":["A","B","C"],"rtt":[[0,30000,20000],[30000,0,40000],[20000,40000,0]]}"#, "optimal 90000\n"),
+        (r#"{"names":["A","B"],"rtt":[[0,30],[31,0]]}"#, "refused not-symmetric 0 1\n"),
+        (r#"{"names":["A","B"],"rtt":[[0,30]]}"#, "refused bad-row 1\n"),
+        ("", "refused not-json\n"),
+    ];
+    for (matrix, text) in cases {
+        let got = judged_plan(rt.alloc(), matrix)?;
+        assert_eq!(rt; got.as_slice(), text.as_bytes(), "{matrix}");
+    }
+    Ok(())
+}
+
+#[test]
+fn plans_one_site(rt: HostRuntime) -> Result<(), Fail> {
+    let input = br#"{"names":["A"],"rtt":[[0]]}"#.to_vec(rt.alloc())?;
+    let got = run_over(rt.alloc(), &["plan"], input, 1, &[], &[])?;
+    let text = "{\"latency\":[0],\"names\":[\"A\"],\"offset\":[[0]],\"pair\":[0],\"rtt\":[[0]],\"total\":0,\"version\":1}\n";
+    assert_eq!(rt; got.status, 0);
+    assert_eq!(rt; got.written.as_slice(), text.as_bytes());
+    Ok(())
+}
+
 /// The schedule of one site with these steps.
 fn schedule_text(alloc: Global, steps: &str) -> Result<Vec<u8>, AllocError> {
     let plan =

@@ -1,6 +1,7 @@
 ghost use Rattle.std.specs.Prelude.{◌≡◌, ◌+◌, ◌≤◌, ◌⊎◌, None, Some, IfOk, IfSome, IsOkAnd, IsSomeAnd, MatchResult};
 ghost use Rattle.std.specs.Io.KnownBytes.{Appends, IsAtEnd};
 ghost use Rattle.commit_offsets.specs.Reading.{plan_of_text};
+ghost use Rattle.rtt_matrix.specs.Reading.{matrix_of_text};
 ghost use Rattle.helios_model.specs.Laws.Safe.{IsSafe};
 ghost use Rattle.outside_io.specs.Causes.{Rose, StaysTold};
 ghost use Rattle.outside_io.specs.Whole.{AppendsPrefix, IsOverLimit, TakesAtMost};
@@ -8,11 +9,11 @@ ghost use Rattle.helios_top.specs.declared.ending.Ending.{Ending};
 ghost use Rattle.helios_top.specs.Answer.{IsAnswer, report_for, world_of};
 ghost use Rattle.helios_top.specs.Ending.{text_of};
 ghost use Rattle.helios_top.specs.Reading.{schedule_of};
-ghost use Rattle.helios_top.specs.Run.{Ends, IsAccepted, IsDone, IsFault, IsRefused, IsStatus, MayEnd, ReadWhole, Wrote, WroteOneLine, WroteOptimal, WroteRefusal, WroteText, WroteVerdict, most_input_bytes};
+ghost use Rattle.helios_top.specs.Run.{Ends, IsAccepted, IsDone, IsFault, IsRefused, IsStatus, MayEnd, ReadWhole, Wrote, WroteOneLine, WroteOptimal, WrotePlan, WroteRefusal, WroteText, WroteVerdict, most_input_bytes};
 ghost use Rattle.helios_top.specs.Words.{command_of, texts};
 
 use crate::words::read_words;
-use crate::{Answer, Command, Ending, INPUT_LIMIT, Status, check, replay};
+use crate::{Answer, Command, Ending, INPUT_LIMIT, Status, check, planning, replay};
 use outside_io::{InputError, Sink, Source, read_whole, write_whole};
 use std::alloc::{AllocError, Global};
 
@@ -88,6 +89,12 @@ pub fn run<S: Source, K: Sink>(
     ensures optimal { command_of (texts words.now.items) ≡ Some Command.Check → result.0 ≡ 0
         → ReadWhole (S.left input.old) (S.left input.new) (λ text. IsOkAnd (plan_of_text text)
         (λ read. WroteOptimal (K.taken output.old) (K.taken output.new) read.0 read.1.pair)) }
+
+    // `plan`: the text that was read is a matrix, and the text of an accepted plan over it was written,
+    // with a pairing that shows that no such plan has a smaller average.
+    ensures planned { command_of (texts words.now.items) ≡ Some Command.Plan → result.0 ≡ 0
+        → ReadWhole (S.left input.old) (S.left input.new) (λ text. IsOkAnd (matrix_of_text text)
+        (λ matrix. WrotePlan (K.taken output.old) (K.taken output.new) matrix)) }
 {
     run_whole(alloc, words, input, output)
 }
@@ -161,6 +168,7 @@ fn answer(alloc: Global, command: Command, input: &[u8]) -> Result<Answer, Alloc
     match command {
         Command::Replay => replay::answer(alloc, input),
         Command::Check => check::answer(alloc, input),
+        Command::Plan => planning::answer(alloc, input),
     }
 }
 

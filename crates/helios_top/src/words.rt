@@ -8,6 +8,8 @@ pub enum Command {
     Replay,
     /// The verdict on a plan.
     Check,
+    /// The optimal plan of a matrix.
+    Plan,
 }
 
 /// The command that the words name; none where they are in no other form. The program's own name
@@ -27,6 +29,7 @@ fn command_named(word: &str) -> Option<Command>
     match word {
         "replay" => Some(Command::Replay),
         "check" => Some(Command::Check),
+        "plan" => Some(Command::Plan),
         _ => None,
     }
 }

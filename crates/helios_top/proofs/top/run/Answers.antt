@@ -1,5 +1,5 @@
 -- Each clause follows from the strong one.
-use Rattle.helios_top.proofs.Runs.{checked, complete, done_to_end, judged_cause, one_line, optimal, read_cause, refusal_line, refused_cause, refused_only, refused_to_end, replayed, safe, status_small, usage_cause, usage_only, write_cause, write_prefix}
+use Rattle.helios_top.proofs.Runs.{checked, complete, done_to_end, judged_cause, one_line, optimal, planned, read_cause, refusal_line, refused_cause, refused_only, refused_to_end, replayed, safe, status_small, usage_cause, usage_only, write_cause, write_prefix}
 use Rattle.helios_top.proofs.top.run.Goals as goal
 
 pub returns-clause-status : goal.returns-clause-status
@@ -55,3 +55,6 @@ returns-clause-optimal g c = optimal c.run_whole.ensures.ends
 
 pub returns-clause-safe : goal.returns-clause-safe
 returns-clause-safe g c = safe c.run_whole.ensures.ends
+
+pub returns-clause-planned : goal.returns-clause-planned
+returns-clause-planned g c = planned c.run_whole.ensures.ends
