@@ -38,11 +38,7 @@ fn members(
 }
 
 #[tactic(auto, using(helios_model::proofs::PlanLimits::latencies_fit))]
-fn plan_value(
-    alloc: Global,
-    plan: &Plan,
-    certificate: &Certificate,
-) -> Result<Value, AllocError>
+fn plan_value(alloc: Global, plan: &Plan, certificate: &Certificate) -> Result<Value, AllocError>
     ensures { IfOk result (λ v. view v ≡ plan_data plan.now certificate.now.pair) }
 {
     let _count = plan.count();

@@ -137,3 +137,14 @@ fn what_is_read_is_what_the_text_says(rt: HostRuntime) -> Result<(), Fail> {
     assert_eq!(rt; certificate.pair.items(), [1, 2, 0].as_slice());
     Ok(())
 }
+
+#[test]
+fn what_is_printed_is_the_text_that_was_read(rt: HostRuntime) -> Result<(), Fail> {
+    for text in [ONE_SITE, EVEN, UNEVEN, THREE, SLACK] {
+        let (plan, certificate) = read_plan(rt.alloc(), text.as_bytes())?;
+        let printed = print_plan(rt.alloc(), &plan, &certificate)?;
+        let line = format!(in rt.alloc(); "{text}\n")?;
+        assert_eq!(rt; printed.items(), line.as_bytes(), "at {text}");
+    }
+    Ok(())
+}

@@ -18,8 +18,15 @@ fn two_sites_are_partners(rt: HostRuntime) -> Result<(), Fail> {
     let alloc = rt.alloc();
     let potentials = assign(alloc, &two_sites(alloc)?)?;
     assert_eq!(rt; potentials.s.items(), [1, 0].as_slice());
-    let both = potentials.u.items().iter().zip(potentials.v.items().iter().rev());
-    assert!(rt; both.map(|(u, v)| u.saturating_add(*v)).all(|reached| reached == 100));
+    let both = potentials
+        .u
+        .items()
+        .iter()
+        .zip(potentials.v.items().iter().rev());
+    assert!(rt;
+        both.map(|(u, v)| u.saturating_add(*v))
+            .all(|reached| reached == 100)
+    );
     assert_eq!(rt; potentials.u.into_items().len(), 2);
     Ok(())
 }

@@ -154,14 +154,14 @@ module _ (m : Distances) (p : Potentials) (latencies : List ℕ) (limits : IsMat
       let own : sum latencies ≡ sum_below (λ i. get_or latencies i 0) n = sym (sum_below-items latencies) ∙ ap (sum_below (λ i. get_or latencies i 0)) added.size in
       let split : sum_below (λ i. get_or latencies i 0) n ≡ sum_below row n + sum_below (λ i. get_or columns i 0) n =
       sum_below-split (λ i. get_or latencies i 0) row (λ i. get_or columns i 0) n (λ i low. (
-          let is : get_or latencies i 0 ≡ row i + column i = latency_is i low in
-          let at : get_or columns i 0 ≡ column i = column_at i low in
-          omega arith)) in
+      let is : get_or latencies i 0 ≡ row i + column i = latency_is i low in
+      let at : get_or columns i 0 ≡ column i = column_at i low in
+      omega arith)) in
       let value : sum_below (λ i. distance m i (get_or p.s i 0)) n ≡ sum_below row n + sum_below (λ i. get_or columns (get_or p.s i 0) 0) n =
       sum_below-split (λ i. distance m i (get_or p.s i 0)) row (λ i. get_or columns (get_or p.s i 0) 0) n (λ i low. (
-          let is : distance m i (get_or p.s i 0) ≡ row i + column (get_or p.s i 0) = trip_tight i low in
-          let at : get_or columns (get_or p.s i 0) 0 ≡ column (get_or p.s i 0) = column_at (get_or p.s i 0) (partner_low i low) in
-          omega arith)) in
+      let is : distance m i (get_or p.s i 0) ≡ row i + column (get_or p.s i 0) = trip_tight i low in
+      let at : get_or columns (get_or p.s i 0) 0 ≡ column (get_or p.s i 0) = column_at (get_or p.s i 0) (partner_low i low) in
+      omega arith)) in
       let all : sum_below (λ i. get_or columns i 0) n ≡ sum columns = ap (sum_below (λ i. get_or columns i 0)) (sym columns_long) ∙ sum_below-items columns in
       let partners : sum_below (λ i. get_or columns (get_or p.s i 0) 0) n ≡ sum columns = partners_sum n p.s columns columns_long assigned.permutation in
       record {
@@ -174,3 +174,14 @@ module _ (m : Distances) (p : Potentials) (latencies : List ℕ) (limits : IsMat
 
   pub is_judged : verdict_of plan p.s ≡ verdicts.Optimal (sum latencies)
   is_judged = sym (verdict_is plan p.s (verdicts.Optimal (sum latencies)) (length_permutation (range_with_len 0 (count_of m)) p.s assigned.permutation ∙ length-range_with_len 0 (count_of m)) (is_accepted, is_certified, refl))
+
+  pub is_long : length p.s ≡ count_of m
+  is_long = length_permutation (range_with_len 0 (count_of m)) p.s assigned.permutation ∙ length-range_with_len 0 (count_of m)
+
+  -- each partner is a site
+  pub are_sites : All (λ partner. partner ≤ 31) p.s
+  are_sites = All-from_get_or (λ partner. partner ≤ 31) p.s 0 (λ i within. (
+      let low : i < count_of m = (let size : length p.s ≡ count_of m = is_long in omega arith) in
+      let below : get_or p.s i 0 < count_of m = below_from_permutation (count_of m) p.s assigned.permutation i low in
+      let few : count_of m ≤ 32 = limits.few in
+      omega arith))

@@ -15,3 +15,6 @@ pub use laws::certificates_show_optimal;
 pub use planning::plan_of;
 pub use short::first_short;
 pub use verdict::Verdict;
+
+#[cfg(test)]
+mod tests;

@@ -1,7 +1,7 @@
-ghost use Rattle.std.specs.Prelude.{◌≡◌, ℕ, ◌<◌, pos, ◌+ℤ◌, All, IfOk, length, slice_index, sum};
+ghost use Rattle.std.specs.Prelude.{◌≡◌, ℕ, ◌<◌, ◌≤◌, pos, ◌+ℤ◌, All, IfOk, length, slice_index, sum};
 ghost use Rattle.helios_model.specs.Certificate.{IsCertificate};
 ghost use Rattle.helios_model.specs.Optimal.{IsOptimal};
-ghost use Rattle.helios_model.specs.Setting.{IsAccepted};
+ghost use Rattle.helios_model.specs.Setting.{IsAccepted, count_of};
 ghost use Rattle.latency_assign.specs.Assignment.{IsInRange, potential};
 ghost use Rattle.plan_certificate.specs.Judgement.{verdict_of};
 
@@ -36,12 +36,14 @@ fn latencies(alloc: Global, u: &[i64], v: &[i64]) -> Result<Times, AllocError>
 }
 
 /// The plan of a matrix with the least average latency, and the pairing that proves it. Only want of memory is an error.
-#[tactic(auto, using(crate::proofs::Planned::is_plan, crate::proofs::Planned::is_accepted, crate::proofs::Planned::is_certified, crate::proofs::Planned::is_optimal, crate::proofs::Planned::is_judged))]
+#[tactic(auto, using(crate::proofs::Planned::is_plan, crate::proofs::Planned::is_accepted, crate::proofs::Planned::is_certified, crate::proofs::Planned::is_optimal, crate::proofs::Planned::is_judged, crate::proofs::Planned::is_long, crate::proofs::Planned::are_sites))]
 pub fn plan_of(alloc: Global, m: &Matrix) -> Result<(Plan, Certificate), AllocError>
     ensures names { IfOk result (λ made. made.0.names ≡ m.now.names) }
     ensures trips { IfOk result (λ made. made.0.trips ≡ m.now.trips) }
     ensures accepted { IfOk result (λ made. IsAccepted made.0) }
     ensures certified { IfOk result (λ made. IsCertificate made.0 made.1.pair) }
+    ensures paired { IfOk result (λ made. length made.1.pair ≡ count_of made.0) }
+    ensures sites { IfOk result (λ made. All (λ partner. partner ≤ 31) made.1.pair) }
     ensures judged { IfOk result (λ made. verdict_of made.0 made.1.pair ≡ Verdict.Optimal (sum made.0.latencies)) }
     ensures optimal { IfOk result (λ made. IsOptimal made.0) }
 {

@@ -11,11 +11,7 @@ use std::alloc::Global;
 
 /// The numbers of as many rows as there are names, row after row, or the first bad row.
 #[tactic(auto, using(crate::proofs::RowSteps::row_read, crate::proofs::RowSteps::row_bad, crate::proofs::RowSteps::row_too_many, crate::proofs::RowSteps::rows_end, crate::proofs::RowSteps::row_missing))]
-pub(crate) fn trips(
-    alloc: Global,
-    count: usize,
-    rows: &Vec<Value>,
-) -> Result<Times, MatrixRefusal>
+pub(crate) fn trips(alloc: Global, count: usize, rows: &Vec<Value>) -> Result<Times, MatrixRefusal>
     requires { count ≤ 32 }
     ensures exact { Gives MatrixRefusal.NoMemory result (trips_from count 0 (items_view rows.now.items)) }
     ensures size { IfOk result (λ trips. length trips ≡ count * count) }
