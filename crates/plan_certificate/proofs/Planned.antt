@@ -14,6 +14,7 @@ use Rattle.helios_model.specs.Setting.{Distances, Setting, IsMatrix, IsPlan, IsA
 use Rattle.latency_assign.specs.Assignment.{count_of, distance, potential, IsInRange, IsAssignment}
 use Rattle.latency_assign.specs.declared.potentials.Potentials.{Potentials}
 use Rattle.plan_certificate.specs.Judgement.{verdict_of}
+use Rattle.plan_certificate.specs.Planning.{AreSums, planned}
 use Rattle.plan_certificate.specs.declared.verdict.Verdict.TheVariants as verdicts
 use Rattle.plan_certificate.proofs.Judgements.{verdict_is}
 use Rattle.plan_certificate.proofs.Optimality.{partners_sum, certificate_shows_optimal}
@@ -41,15 +42,18 @@ unfolding size_of
 size_is (pos n) h = refl
 size_is (negsuc n) h = absurd (omega (arith, ints))
 
--- the latencies of a matrix's sites are the sums of its potentials
-pub record AreSums (m : Distances) (p : Potentials) (latencies : List ℕ) : Type 0 where
-  pub size : length latencies ≡ count_of m
-  pub sums : (i : ℕ) → i < count_of m → pos (get_or latencies i 0) ≡ (potential p.u i +ℤ potential p.v i)
+-- sums of both potentials at each place are those of the sites
+pub are_sums : (m : Distances) (p : Potentials) (u v : List ℤ) (latencies : List ℕ) → IsAssignment m p → u ≡ p.u → v ≡ p.v → length latencies ≡ length u → ((i : ℕ) → i < length u → pos (get_or latencies i 0) ≡ (potential u i +ℤ potential v i)) → AreSums m p latencies
+are_sums m p u v latencies assigned rows columns size sums =
+    let long : length u ≡ count_of m = ap length rows ∙ assigned.rows in
+    record {
+      size = size ∙ long;
+      sums = λ i low. (sums i (omega arith) ∙ ap (λ xs. potential xs i +ℤ potential v i) rows ∙ ap (λ xs. potential p.u i +ℤ potential xs i) columns);
+    }
 
 module _ (m : Distances) (p : Potentials) (latencies : List ℕ) (limits : IsMatrix m.names m.trips) (assigned : IsAssignment m p) (added : AreSums m p latencies) where
-  -- the matrix with the latencies
-  abbrev pub plan : Setting
-  plan = record { names = m.names; trips = m.trips; latencies = latencies }
+  abbrev plan : Setting
+  plan = planned m latencies
 
   row : ℕ → ℕ
   row i = size_of (potential p.u i)
@@ -123,7 +127,7 @@ module _ (m : Distances) (p : Potentials) (latencies : List ℕ) (limits : IsMat
   }
 
   -- any two latencies reach the round trip there and back
-  pub is_accepted : IsAccepted plan
+  pub is_accepted : IsAccepted (planned m latencies)
   is_accepted = record {
     limits = is_plan;
     reached = λ i j first second apart. (
@@ -147,7 +151,7 @@ module _ (m : Distances) (p : Potentials) (latencies : List ℕ) (limits : IsMat
   column_at j low = get_or-map size_of p.v j (pos 0) 0 (let size : length p.v ≡ count_of m = assigned.columns in omega arith)
 
   -- the latencies add up to the round trips to the partners
-  pub is_certified : IsCertificate plan p.s
+  pub is_certified : IsCertificate (planned m latencies) p.s
   unfolding partner
   is_certified =
       let n : ℕ = count_of m in
@@ -169,10 +173,10 @@ module _ (m : Distances) (p : Potentials) (latencies : List ℕ) (limits : IsMat
         value = (let same : sum latencies ≡ sum_below (λ i. distance m i (get_or p.s i 0)) n = omega arith in same);
       }
 
-  pub is_optimal : IsOptimal plan
+  pub is_optimal : IsOptimal (planned m latencies)
   is_optimal = certificate_shows_optimal plan p.s is_accepted is_certified
 
-  pub is_judged : verdict_of plan p.s ≡ verdicts.Optimal (sum latencies)
+  pub is_judged : verdict_of (planned m latencies) p.s ≡ verdicts.Optimal (sum latencies)
   is_judged = sym (verdict_is plan p.s (verdicts.Optimal (sum latencies)) (length_permutation (range_with_len 0 (count_of m)) p.s assigned.permutation ∙ length-range_with_len 0 (count_of m)) (is_accepted, is_certified, refl))
 
   pub is_long : length p.s ≡ count_of m

@@ -1,3 +1,4 @@
 pub mod Judgement
+pub mod Planning
 pub mod Says
 pub mod Verdict

@@ -1,9 +1,10 @@
 ghost use Rattle.std.specs.Prelude.{◌≡◌, ℕ, ◌<◌, ◌≤◌, pos, ◌+ℤ◌, All, IfOk, length, slice_index, sum};
 ghost use Rattle.helios_model.specs.Certificate.{IsCertificate};
 ghost use Rattle.helios_model.specs.Optimal.{IsOptimal};
-ghost use Rattle.helios_model.specs.Setting.{IsAccepted, count_of};
-ghost use Rattle.latency_assign.specs.Assignment.{IsInRange, potential};
+ghost use Rattle.helios_model.specs.Setting.{IsAccepted, IsPlan, count_of};
+ghost use Rattle.latency_assign.specs.Assignment.{IsAssignment, IsInRange, potential};
 ghost use Rattle.plan_certificate.specs.Judgement.{verdict_of};
+ghost use Rattle.plan_certificate.specs.Planning.{AreSums, planned};
 
 use crate::verdict::Verdict;
 use helios_model::numbers::Times;
@@ -21,7 +22,7 @@ fn sum_of(u: i64, v: i64) -> u64
 }
 
 // The two potentials of each site, added up: its latency in half microseconds.
-fn latencies(alloc: Global, u: &[i64], v: &[i64]) -> Result<Times, AllocError>
+fn sums(alloc: Global, u: &[i64], v: &[i64]) -> Result<Times, AllocError>
     requires size { length u.now ≡ length v.now }
     requires rows { All IsInRange u.now }
     requires columns { All IsInRange v.now }
@@ -35,8 +36,24 @@ fn latencies(alloc: Global, u: &[i64], v: &[i64]) -> Result<Times, AllocError>
     Ok(Times::new(sums))
 }
 
+#[tactic(auto, using(crate::proofs::Planned::are_sums))]
+fn latencies(alloc: Global, m: &Matrix, potentials: &Potentials) -> Result<Times, AllocError>
+    requires { IsAssignment m.now potentials.now }
+    ensures { IfOk result (AreSums m.now potentials.now) }
+{
+    let _count = m.count();
+    sums(alloc, potentials.u.items(), potentials.v.items())
+}
+
+fn plan_with(alloc: Global, m: &Matrix, latencies: Times) -> Result<Plan, AllocError>
+    requires { IsPlan m.now.names m.now.trips latencies }
+    ensures { IfOk result (λ plan. plan ≡ planned m.now latencies) }
+{
+    Ok(Plan::new(m.names().copy()?, m.trips().copy()?, latencies))
+}
+
 /// The plan of a matrix with the least average latency, and the pairing that proves it. Only want of memory is an error.
-#[tactic(auto, using(crate::proofs::Planned::is_plan, crate::proofs::Planned::is_accepted, crate::proofs::Planned::is_certified, crate::proofs::Planned::is_optimal, crate::proofs::Planned::is_judged, crate::proofs::Planned::is_long, crate::proofs::Planned::are_sites))]
+#[tactic(auto, using(crate::proofs::Planned::is_plan, crate::proofs::Planned::is_accepted, crate::proofs::Planned::is_certified, crate::proofs::Planned::is_judged, crate::proofs::Planned::is_long, crate::proofs::Planned::are_sites))]
 pub fn plan_of(alloc: Global, m: &Matrix) -> Result<(Plan, Certificate), AllocError>
     ensures names { IfOk result (λ made. made.0.names ≡ m.now.names) }
     ensures trips { IfOk result (λ made. made.0.trips ≡ m.now.trips) }
@@ -47,9 +64,10 @@ pub fn plan_of(alloc: Global, m: &Matrix) -> Result<(Plan, Certificate), AllocEr
     ensures judged { IfOk result (λ made. verdict_of made.0 made.1.pair ≡ Verdict.Optimal (sum made.0.latencies)) }
     ensures optimal { IfOk result (λ made. IsOptimal made.0) }
 {
-    let Potentials { u, v, s } = assign(alloc, m)?;
-    let latencies = latencies(alloc, u.items(), v.items())?;
     let _count = m.count();
-    let plan = Plan::new(m.names().copy()?, m.trips().copy()?, latencies);
+    let potentials = assign(alloc, m)?;
+    let latencies = latencies(alloc, m, &potentials)?;
+    let plan = plan_with(alloc, m, latencies)?;
+    let Potentials { u: _, v: _, s } = potentials;
     Ok((plan, Certificate { pair: s }))
 }

@@ -1,7 +1,7 @@
 use Rattle.std.proofs.Common.{◌≡◌, ℕ, ◌<◌, length, get_or, pos}
 use Rattle.std.specs.Prelude.{◌+ℤ◌}
 use Rattle.latency_assign.specs.Assignment.{potential}
-use Rattle.plan_certificate.proofs.planning.latencies.Given as goal
+use Rattle.plan_certificate.proofs.planning.sums.Given as goal
 
 abbrev pub invariant-loop-i : goal.invariant-loop-i
 invariant-loop-i l = record {
