@@ -147,10 +147,22 @@ fn judged_plan(alloc: Global, matrix: &str) -> Result<Vec<u8>, AllocError> {
 fn plans_each_matrix(rt: HostRuntime) -> Result<(), Fail> {
     let cases = [
         (r#"{"names":["A"],"rtt":[[0]]}"#, "optimal 0\n"),
-        (r#"{"names":["A","B","C"],"rtt":[[0,100,100],[100,0,0],[100,0,0]]}"#, "optimal 200\n"),
-        (r#"{"names":["A","B","C"],"rtt":[[0,30000,20000],[30000,0,40000],[20000,40000,0]]}"#, "optimal 90000\n"),
-        (r#"{"names":["A","B"],"rtt":[[0,30],[31,0]]}"#, "refused not-symmetric 0 1\n"),
-        (r#"{"names":["A","B"],"rtt":[[0,30]]}"#, "refused bad-row 1\n"),
+        (
+            r#"{"names":["A","B","C"],"rtt":[[0,100,100],[100,0,0],[100,0,0]]}"#,
+            "optimal 200\n",
+        ),
+        (
+            r#"{"names":["A","B","C"],"rtt":[[0,30000,20000],[30000,0,40000],[20000,40000,0]]}"#,
+            "optimal 90000\n",
+        ),
+        (
+            r#"{"names":["A","B"],"rtt":[[0,30],[31,0]]}"#,
+            "refused not-symmetric 0 1\n",
+        ),
+        (
+            r#"{"names":["A","B"],"rtt":[[0,30]]}"#,
+            "refused bad-row 1\n",
+        ),
         ("", "refused not-json\n"),
     ];
     for (matrix, text) in cases {
@@ -164,7 +176,8 @@ fn plans_each_matrix(rt: HostRuntime) -> Result<(), Fail> {
 fn plans_one_site(rt: HostRuntime) -> Result<(), Fail> {
     let input = br#"{"names":["A"],"rtt":[[0]]}"#.to_vec(rt.alloc())?;
     let got = run_over(rt.alloc(), &["plan"], input, 1, &[], &[])?;
-    let text = "{\"latency\":[0],\"names\":[\"A\"],\"offset\":[[0]],\"pair\":[0],\"rtt\":[[0]],\"total\":0,\"version\":1}\n";
+    let text =
+        "{\"latency\":[0],\"names\":[\"A\"],\"offset\":[[0]],\"pair\":[0],\"rtt\":[[0]],\"total\":0,\"version\":1}\n";
     assert_eq!(rt; got.status, 0);
     assert_eq!(rt; got.written.as_slice(), text.as_bytes());
     Ok(())
