@@ -4,3 +4,4 @@ pub mod Opening
 pub mod Positions
 pub mod Heads
 pub mod Reading
+pub mod Lines

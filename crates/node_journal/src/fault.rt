@@ -1,5 +1,6 @@
-ghost use Rattle.std.specs.Prelude.{◌≡◌};
+ghost use Rattle.std.specs.Prelude.{◌≡◌, Some};
 ghost use Rattle.node_journal.specs.declared.fault.JournalFault.TheVariants.{DiskFailed, NoMemory};
+ghost use Rattle.node_journal.specs.Lines.{fault_text};
 
 use outside_io::Failed;
 use std::alloc::AllocError;
@@ -36,6 +37,8 @@ impl From<AllocError> for JournalFault {
 }
 
 impl fmt::Display for JournalFault {
+    ghost output = { λ fault. Some (fault_text fault) };
+
     fn fmt<W: fmt::Write>(&self, f: &mut fmt::Formatter<W>) -> fmt::Result {
         match self {
             JournalFault::DiskFailed => write!(f, "the disk failed"),
