@@ -1,8 +1,9 @@
 -- What a loop of reads has taken so far.
-use Rattle.std.proofs.Common.{◌≡◌, ℕ, ◌+◌, ◌<◌, ◌≤◌, List, [], ◌++◌, Option, Some, None, length, arith, ap, sym, ◌∙◌, subst, length-append}
-use Rattle.std.specs.Prelude.{Result, Err, IsErrOf}
+use Rattle.std.proofs.Common.{◌≡◌, inl, inr, ℕ, ◌+◌, ◌<◌, ◌≤◌, List, [], ◌++◌, Option, Some, None, length, arith, ap, sym, ◌∙◌, subst, length-append}
+use Rattle.std.specs.Prelude.{◌⊎◌, Result, Ok, Err, IsErrOf}
 use Rattle.std.specs.Io.KnownBytes.{Consumes}
 use Rattle.outside_io.specs.declared.whole.InputError.{InputError}
+use Rattle.outside_io.specs.declared.whole.InputError.TheVariants.{Failed}
 use Rattle.std.proofs.KnownBytes.{Consumes-trans, Consumes-nil}
 use Rattle.outside_io.specs.Whole.{IsOverLimit, TakesAtMost, HasGrown}
 
@@ -40,3 +41,7 @@ same_fault {T} {U} given handed fault was same =
     let same_value : given ≡ fault = cc in
     let fails : InputError → Result U InputError = λ x. Err x in
     ap fails (sym same ∙ same_value)
+
+-- a call that answers Ok leaves the count of faults as it was before the loop
+pub stays_past : {T : Type 0} (first before now : ℕ) (value : T) → IsErrOf {T = T} {E = InputError} (Ok value) Failed ⊎ (now ≡ before) → before ≡ first → now ≡ first
+stays_past first before now value answered so_far = elim answered [ inl failed ↦ absurd (cc failed) | inr stands ↦ stands ∙ so_far ]

@@ -1,8 +1,10 @@
 use super::*;
+use crate::system::{read_once, write_once};
 use std::alloc::{AllocError, Allocator, Global};
 use std::fmt::Display;
+use std::cell::Cell;
 use std::io;
-use std::io::{BufRead, Lines};
+use std::io::{BufRead, ErrorKind, Lines, Read};
 use std::test::Fail;
 
 fn bytes_of(alloc: Global, count: usize) -> Result<Vec<u8>, AllocError> {
@@ -115,6 +117,69 @@ impl Print for Closed {
     fn write_some(&self, _bytes: &[u8]) -> io::Result<usize> {
         Ok(0)
     }
+}
+
+/// A reader at which a signal comes before the first byte.
+#[derive(Drop)]
+struct Signalled {
+    came: bool,
+}
+
+impl Read for Signalled {
+    fn read(&mut self, buf: &mut [u8]) -> io::Result<usize> {
+        if !self.came {
+            self.came = true;
+            return Err(ErrorKind::Interrupted.into());
+        }
+        Ok(buf.len().min(3))
+    }
+}
+
+/// An output at which a signal comes before the first byte.
+#[derive(Drop)]
+struct SignalledOutput {
+    came: Cell<bool>,
+}
+
+impl Print for SignalledOutput {
+    fn print<D: Display + Drop>(&self, _value: D) -> io::Result<()> {
+        Ok(())
+    }
+
+    fn println<D: Display + Drop>(&self, _value: D) -> io::Result<()> {
+        Ok(())
+    }
+
+    fn write_all(&self, _bytes: &[u8]) -> io::Result<()> {
+        Ok(())
+    }
+
+    fn write_some(&self, bytes: &[u8]) -> io::Result<usize> {
+        if !self.came.replace(true) {
+            return Err(ErrorKind::Interrupted.into());
+        }
+        Ok(bytes.len().min(3))
+    }
+}
+
+#[test]
+fn a_signal_ends_no_read_and_no_write(rt: HostRuntime) {
+    let mut reader = Signalled { came: false };
+    assert_eq!(rt; read_once(&mut reader, &mut [0u8; 8]), Some(3));
+    let output = SignalledOutput {
+        came: Cell::new(false),
+    };
+    assert_eq!(rt; write_once(&output, b"written\n"), Some(3));
+}
+
+#[test]
+fn nothing_is_asked_behind_the_end(rt: HostRuntime) -> Result<(), Fail> {
+    let alloc = rt.alloc();
+    let mut source = MemSource::new(bytes_of(alloc, 2)?, 1, vec![in alloc; 3]?);
+    let found = read_whole(alloc, &mut source, 9);
+    assert!(rt; found == Ok(Some(bytes_of(alloc, 2)?)));
+    assert_eq!(rt; source.faults(), 0);
+    Ok(())
 }
 
 #[test]

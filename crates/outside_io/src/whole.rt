@@ -1,4 +1,4 @@
-ghost use Rattle.std.specs.Prelude.{◌≡◌, ℕ, ◌+◌, ◌<◌, ◌≤◌, List, [], Some, Option, length, IfOk, IfSome, IfNone, IsOk, OnOk, IsErrOf, vec_len};
+ghost use Rattle.std.specs.Prelude.{◌≡◌, ◌⊎◌, ℕ, ◌+◌, ◌<◌, ◌≤◌, List, [], Some, Option, length, IfOk, IfSome, IfNone, IsOk, OnOk, IsErrOf, vec_len};
 ghost use Rattle.std.specs.Io.KnownBytes.{Appends, IsAtEnd};
 ghost use Rattle.outside_io.specs.Causes.{HasCause, IsCount, Rose, StaysTold};
 ghost use Rattle.outside_io.specs.Whole.{AppendsPrefix, HasGrown, input_error_text, IsOverLimit, IsWholeInput, TakesAtMost};
@@ -62,6 +62,7 @@ pub fn read_whole<S: Source>(
     ensures over { IfOk result (λ found. IfNone found (IsOverLimit limit (S.left source.old))) }
     ensures failed { IsErrOf result InputError.Failed →
         Rose (S.faults source.old) (S.faults source.new) }
+    ensures steady { IsErrOf result InputError.Failed ⊎ (S.faults source.new ≡ S.faults source.old) }
     ensures later { S.faults source.old ≤ S.faults source.new }
     ensures count { IsCount (S.faults source.old) → IsCount (S.faults source.new) }
     ensures most { TakesAtMost (limit + 1) (S.left source.old) (S.left source.new) }
@@ -101,6 +102,7 @@ fn read_piece<S: Source>(
         TakesAtMost 0 (S.left source.old) (S.left source.new) }
     ensures failed { IsErrOf result InputError.Failed →
         Rose (S.faults source.old) (S.faults source.new) }
+    ensures steady { IsErrOf result InputError.Failed ⊎ (S.faults source.new ≡ S.faults source.old) }
     ensures later { S.faults source.old ≤ S.faults source.new }
     ensures count { IsCount (S.faults source.new) }
     ensures tells { StaysTold (S.left source.old) (S.left source.new) }

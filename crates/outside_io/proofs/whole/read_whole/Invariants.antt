@@ -8,7 +8,7 @@ invariant-loop-buffer g l = record {
   taken : Consumes (g.S.Source.left l.initial.source) (g.S.Source.left l.source) l.bytes.items;
   tells : StaysTold (g.S.Source.left l.initial.source) (g.S.Source.left l.source);
   fits : vec_len l.bytes ≤ l.limit;
-  later : g.S.Source.faults l.initial.source ≤ g.S.Source.faults l.source;
+  steady : g.S.Source.faults l.source ≡ g.S.Source.faults l.initial.source;
   count : IsCount (g.S.Source.faults l.initial.source) → IsCount (g.S.Source.faults l.source);
   room : vec_len l.buffer ≡ vec_len l.initial.buffer;
 }
