@@ -24,7 +24,7 @@ use Rattle.helios_top.specs.declared.ending.Ending.TheVariants.{Usage, ReadFault
 use Rattle.helios_top.specs.Answer.{IsAnswer, IsPlanAnswer, IsCheckAnswer, IsReplayAnswer, IsVerdict, report_for, world_of}
 use Rattle.helios_top.specs.Ending.{answer_status, answer_text, line, status_of, text_of, verdict_status, verdict_text}
 use Rattle.helios_top.specs.Reading.{schedule_of}
-use Rattle.helios_top.specs.Run.{most_input_bytes, Answers, Ends, IsAccepted, IsDone, IsFault, IsOfForm, IsOtherForm, IsRefused, IsStatus, IsTooLarge, MayEnd, ReadWhole, WroteOneLine, WroteOptimal, WrotePlan, WroteRefusal, WroteVerdict}
+use Rattle.helios_top.specs.Run.{most_input_bytes, Answers, Ends, IsAccepted, IsDone, IsFault, IsOfForm, IsOtherForm, IsRefused, IsStatus, IsTooLarge, IsUnfailed, MayEnd, ReadWhole, Wrote, WroteOneLine, WroteOptimal, WrotePlan, WroteRefusal, WroteVerdict}
 
 -- ---- which ending has each status
 
@@ -520,3 +520,29 @@ module _ {named : Option Command} {left left' : Option (List ℕ)} {reads reads'
 -- nothing of an input that stays as it was is taken
 pub takes_nothing : (left : Option (List ℕ)) (most : ℕ) → TakesAtMost most left left
 takes_nothing left most = takes_none left most
+
+wrote_status : (taken taken' : Option (List ℕ)) (writes writes' status : ℕ) (ending : Ending) → Wrote taken taken' writes writes' status ending → (status ≡ status_of ending) ⊎ (status ≡ 3)
+wrote_status taken taken' writes writes' status ending wrote = elim wrote [ inl whole ↦ inl whole.0 | inr front ↦ inr front.0 ]
+
+unfailed_other : (status : ℕ) → IsUnfailed status → (status ≢ 2) × (status ≢ 3) × (status ≢ 4)
+unfailed_other status h = elim h [
+  | inl done ↦ (elim done [ inl zero ↦ (λ e. omega arith, λ e. omega arith, λ e. omega arith) | inr nine ↦ (λ e. omega arith, λ e. omega arith, λ e. omega arith) ])
+  | inr line ↦ (elim line [ inl one ↦ (λ e. omega arith, λ e. omega arith, λ e. omega arith) | inr five ↦ (λ e. omega arith, λ e. omega arith, λ e. omega arith) ])
+]
+
+-- a run whose status is that of no fault ended by no read fault
+pub reads_stood : (taken taken' : Option (List ℕ)) (writes writes' reads reads' status : ℕ) (ending : Ending)
+    → Wrote taken taken' writes writes' status ending ⊎ Wrote taken taken' writes writes' status NoMemory
+    → (status_of ending ≢ 2 → reads' ≡ reads) → IsUnfailed status → reads' ≡ reads
+reads_stood taken taken' writes writes' reads reads' status ending wrote stands unfailed =
+    let other = unfailed_other status unfailed in
+    elim wrote [
+      | inl own ↦ (elim (wrote_status taken taken' writes writes' status ending own) [
+        | inl due ↦ stands (λ two. other.0 (due ∙ two))
+        | inr three ↦ absurd (other.1.0 three)
+      ])
+      | inr none ↦ (elim (wrote_status taken taken' writes writes' status NoMemory none) [
+        | inl four ↦ absurd (other.1.1 four)
+        | inr three ↦ absurd (other.1.0 three)
+      ])
+    ]

@@ -115,6 +115,10 @@ IsAccepted (Some command) bytes = (length bytes ≤ most_input_bytes) × IsOfFor
 abbrev pub IsDone : ℕ → Type 0
 IsDone status = (status ≡ 0) ⊎ (status ≡ 9)
 
+-- the statuses of a run in which no read failed
+abbrev pub IsUnfailed : ℕ → Type 0
+IsUnfailed status = IsDone status ⊎ (status ≡ 1) ⊎ (status ≡ 5)
+
 -- the line of a verdict on the plan was written, with its status
 pub record WroteVerdict (taken taken' : Option (List ℕ)) (status : ℕ) (plan : Setting) (pair : List ℕ) : Type 0 where
   pub verdict : Verdict

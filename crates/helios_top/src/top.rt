@@ -1,4 +1,4 @@
-ghost use Rattle.std.specs.Prelude.{◌≡◌, ◌+◌, ◌≤◌, ◌⊎◌, None, Some, IfOk, IfSome, IsOkAnd, IsSomeAnd, MatchResult};
+ghost use Rattle.std.specs.Prelude.{◌≡◌, ◌≢◌, ◌+◌, ◌≤◌, ◌⊎◌, None, Some, IfOk, IfSome, IsOkAnd, IsSomeAnd, MatchResult};
 ghost use Rattle.std.specs.Io.KnownBytes.{Appends, IsAtEnd};
 ghost use Rattle.commit_offsets.specs.Reading.{plan_of_text};
 ghost use Rattle.rtt_matrix.specs.Reading.{matrix_of_text};
@@ -7,9 +7,9 @@ ghost use Rattle.outside_io.specs.Causes.{Rose, StaysTold};
 ghost use Rattle.outside_io.specs.Whole.{AppendsPrefix, IsOverLimit, TakesAtMost};
 ghost use Rattle.helios_top.specs.declared.ending.Ending.{Ending};
 ghost use Rattle.helios_top.specs.Answer.{IsAnswer, report_for, world_of};
-ghost use Rattle.helios_top.specs.Ending.{text_of};
+ghost use Rattle.helios_top.specs.Ending.{status_of, text_of};
 ghost use Rattle.helios_top.specs.Reading.{schedule_of};
-ghost use Rattle.helios_top.specs.Run.{Ends, IsAccepted, IsDone, IsFault, IsRefused, IsStatus, MayEnd, ReadWhole, Wrote, WroteOneLine, WroteOptimal, WrotePlan, WroteRefusal, WroteText, WroteVerdict, most_input_bytes};
+ghost use Rattle.helios_top.specs.Run.{Ends, IsAccepted, IsDone, IsFault, IsRefused, IsStatus, IsUnfailed, MayEnd, ReadWhole, Wrote, WroteOneLine, WroteOptimal, WrotePlan, WroteRefusal, WroteText, WroteVerdict, most_input_bytes};
 ghost use Rattle.helios_top.specs.Words.{command_of, texts};
 
 use crate::words::read_words;
@@ -45,6 +45,10 @@ pub fn run<S: Source, K: Sink>(
         (S.faults input.old) (S.faults input.new) ending
         × AppendsPrefix (K.taken output.old) (K.taken output.new) (text_of ending) }
     ensures one_line { WroteOneLine (K.taken output.old) (K.taken output.new) result.0 }
+
+    // No call that failed is passed over.
+    ensures no_read_failed { IsUnfailed result.0 → S.faults input.new ≡ S.faults input.old }
+    ensures no_write_failed { result.0 ≢ 3 → K.faults output.new ≡ K.faults output.old }
 
     // What holds of the input and the output however the run ends: nothing is asked of the input once
     // it has given one byte more than a command reads.
@@ -100,6 +104,7 @@ pub fn run<S: Source, K: Sink>(
 }
 
 /// The whole run, by its strong clause.
+#[tactic(auto, using(crate::proofs::Runs::reads_stood))]
 fn run_whole<S: Source, K: Sink>(
     alloc: Global,
     words: &Vec<String>,
@@ -110,6 +115,8 @@ fn run_whole<S: Source, K: Sink>(
         (S.faults input.old) (S.faults input.new) (K.taken output.old) (K.taken output.new)
         (K.faults output.old) (K.faults output.new) result.0 }
     ensures unread { command_of (texts words.now.items) ≡ None → input.new ≡ input.old }
+    ensures no_read_failed { IsUnfailed result.0 → S.faults input.new ≡ S.faults input.old }
+    ensures no_write_failed { result.0 ≢ 3 → K.faults output.new ≡ K.faults output.old }
     ensures tells_input { StaysTold (S.left input.old) (S.left input.new) }
     ensures later_input { S.faults input.old ≤ S.faults input.new }
     ensures most { TakesAtMost (most_input_bytes + 1) (S.left input.old) (S.left input.new) }
@@ -126,6 +133,7 @@ fn ending_of<S: Source>(alloc: Global, words: &Vec<String>, input: &mut S) -> En
     ensures unread { command_of (texts words.now.items) ≡ None → input.new ≡ input.old }
     ensures may_end { MayEnd (command_of (texts words.now.items)) (S.left input.old) (S.left input.new)
         (S.faults input.old) (S.faults input.new) result }
+    ensures steady { status_of result ≢ 2 → S.faults input.new ≡ S.faults input.old }
     ensures tells_input { StaysTold (S.left input.old) (S.left input.new) }
     ensures later_input { S.faults input.old ≤ S.faults input.new }
     ensures most { TakesAtMost (most_input_bytes + 1) (S.left input.old) (S.left input.new) }
@@ -140,6 +148,7 @@ fn ending_of<S: Source>(alloc: Global, words: &Vec<String>, input: &mut S) -> En
 fn read_and_answer<S: Source>(alloc: Global, command: Command, input: &mut S) -> Ending
     ensures may_end { MayEnd (Some command) (S.left input.old) (S.left input.new)
         (S.faults input.old) (S.faults input.new) result }
+    ensures steady { status_of result ≢ 2 → S.faults input.new ≡ S.faults input.old }
     ensures tells_input { StaysTold (S.left input.old) (S.left input.new) }
     ensures later_input { S.faults input.old ≤ S.faults input.new }
     ensures most { TakesAtMost (most_input_bytes + 1) (S.left input.old) (S.left input.new) }
@@ -177,6 +186,7 @@ fn answer(alloc: Global, command: Command, input: &[u8]) -> Result<Answer, Alloc
 fn write_ending<K: Sink>(alloc: Global, output: &mut K, ending: Ending) -> Status
     ensures wrote { Wrote (K.taken output.old) (K.taken output.new) (K.faults output.old) (K.faults output.new) result.0 ending
         ⊎ Wrote (K.taken output.old) (K.taken output.new) (K.faults output.old) (K.faults output.new) result.0 Ending.NoMemory }
+    ensures steady { result.0 ≢ 3 → K.faults output.new ≡ K.faults output.old }
     ensures tells_output { StaysTold (K.taken output.old) (K.taken output.new) }
     ensures later_output { K.faults output.old ≤ K.faults output.new }
 {
@@ -191,6 +201,7 @@ fn write_ending<K: Sink>(alloc: Global, output: &mut K, ending: Ending) -> Statu
 fn write_text<K: Sink>(output: &mut K, text: &[u8], due: u8) -> Status
     ensures wrote { WroteText (K.taken output.old) (K.taken output.new) (K.faults output.old) (K.faults output.new)
         result.0 due text.now }
+    ensures steady { result.0 ≢ 3 → K.faults output.new ≡ K.faults output.old }
     ensures tells_output { StaysTold (K.taken output.old) (K.taken output.new) }
     ensures later_output { K.faults output.old ≤ K.faults output.new }
 {
