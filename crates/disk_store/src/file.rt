@@ -67,6 +67,7 @@ where
 
     fn len(&mut self) -> Result<u64, Failed>
         ensures after { MatchResult result (λ _. self.new ≡ self.old) (λ _. self.new ≡ one_more self.old) }
+        ensures count { IsCount self.new }
         ensures cause { HasCause self.old self.new result }
     {
         match self.file.metadata() {
@@ -78,6 +79,7 @@ where
     fn read_at(&mut self, at: u64, into: &mut [u8]) -> Result<usize, Failed>
         ensures after { MatchResult result (λ _. self.new ≡ self.old) (λ _. self.new ≡ one_more self.old) }
         ensures bound { IfOk result (λ count. count ≤ length into.new) }
+        ensures count { IsCount self.new }
         ensures cause { HasCause self.old self.new result }
     {
         match read_all_at(&self.file, at, into) {
@@ -88,6 +90,7 @@ where
 
     fn write_at(&mut self, at: u64, from: &[u8]) -> Result<(), Failed>
         ensures after { MatchResult result (λ _. self.new ≡ self.old) (λ _. self.new ≡ one_more self.old) }
+        ensures count { IsCount self.new }
         ensures cause { HasCause self.old self.new result }
     {
         match self.file.write_all_at(from, at) {
@@ -98,6 +101,7 @@ where
 
     fn sync(&mut self) -> Result<(), Failed>
         ensures after { MatchResult result (λ _. self.new ≡ self.old) (λ _. self.new ≡ one_more self.old) }
+        ensures count { IsCount self.new }
         ensures cause { HasCause self.old self.new result }
     {
         match self.file.sync_all() {

@@ -1,7 +1,7 @@
 // Bytes that are written and made durable at once.
 ghost use Rattle.std.specs.Prelude.{◌≡◌, ◌+◌, ◌≤◌, ◌&&◌, Some, length, option_map, is_ok, is_some, nat_le, if◌then◌else◌, IfSome, OnOk, OnErr};
 ghost use Rattle.std.specs.Option.{ForSome};
-ghost use Rattle.outside_io.specs.Causes.{HasCause};
+ghost use Rattle.outside_io.specs.Causes.{HasCause, IsCount};
 ghost use Rattle.disk_store.specs.Disk.{MayHaveWritten, after_write, after_sync};
 ghost use Rattle.disk_store.specs.Outlook.{never, is_done, outlook_next};
 ghost use Rattle.disk_store.specs.Moments.{AtEachMoment};
@@ -24,6 +24,7 @@ pub(crate) fn write_durably<D: Disk>(disk: &mut D, at: u64, bytes: &[u8]) -> Res
         then option_map (after_write at bytes.now) (D.state disk.old) else D.state disk.old))) }
     ensures next { OnOk result (D.outlook disk.new ≡ option_map (λ o. outlook_next (outlook_next o)) (D.outlook disk.old)) }
     ensures quiet { IfSome (D.outlook disk.old) (λ o. o.failing ≡ never → D.outlook disk.new ≡ Some o) }
+    ensures count { IsCount (D.faults disk.new) }
     ensures cause { HasCause (D.faults disk.old) (D.faults disk.new) result }
 {
     disk.write_at(at, bytes)?;

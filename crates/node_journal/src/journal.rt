@@ -1,6 +1,6 @@
 ghost use Rattle.std.specs.Prelude.{◌≡◌, ◌⊎◌, ◌↔◌, ◌&&◌, ◌+◌, ◌<◌, ◌≤◌, ◌∷◌, [], ◌++◌, List, ℕ, Some, length, option_map, is_ok, nat_le, if◌then◌else◌, IfSome, IfOk, IfErr, OnOk, OnErr, IsErrOf};
 ghost use Rattle.std.specs.Option.{ForSome};
-ghost use Rattle.outside_io.specs.Causes.{Rose};
+ghost use Rattle.outside_io.specs.Causes.{IsCount, Rose};
 ghost use Rattle.disk_store.specs.Disk.{EachImage, at_rest};
 ghost use Rattle.disk_store.specs.Outlook.{never, outlook_next};
 ghost use Rattle.disk_store.specs.Moments.{AtEachMoment};
@@ -52,6 +52,7 @@ impl Journal {
         ensures untouched { IsErrOf result JournalFault.JournalFull → disk.new ≡ disk.old }
         ensures faults { IfErr result (λ fault. (fault ≡ JournalFault.DiskFailed) ⊎ (fault ≡ JournalFault.JournalFull)) }
         ensures later { D.faults disk.old ≤ D.faults disk.new }
+        ensures count { IsCount (D.faults disk.old) → IsCount (D.faults disk.new) }
         ensures cause { IsErrOf result JournalFault.DiskFailed → Rose (D.faults disk.old) (D.faults disk.new) }
 
         // Where the outlook is told, the answer and the disk after it are exactly these.
