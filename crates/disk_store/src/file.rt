@@ -63,6 +63,8 @@ where
 
     ghost outlook = { λ _. None };
 
+    ghost keeps = { λ _. None };
+
     ghost faults = { λ f. f };
 
     fn len(&mut self) -> Result<u64, Failed>

@@ -53,6 +53,8 @@ impl Disk for RecordDisk {
 
     ghost outlook = { λ r. None };
 
+    ghost keeps = { λ r. None };
+
     ghost faults = { λ r. r.faults };
 
     fn len(&mut self) -> Result<u64, Failed>

@@ -4,6 +4,7 @@ ghost use Rattle.outside_io.specs.Causes.{HasCause, IsCount};
 ghost use Rattle.disk_store.specs.Disk.{DiskState, IsImage, GivesBytes, MayHaveWritten, after_write, after_sync};
 ghost use Rattle.disk_store.specs.Outlook.{Outlook, succeeds, is_done, outlook_next};
 ghost use Rattle.disk_store.specs.Moments.{Elapses};
+ghost use Rattle.disk_store.specs.declared.fate.Keep.{Keep};
 
 use outside_io::Failed;
 
@@ -18,6 +19,9 @@ pub trait Disk {
     /// The room and the call that is to fail, where the disk tells them.
     ghost outlook: { Self → Option Outlook };
 
+    /// What a crash leaves of what is not synced, where the disk tells it.
+    ghost keeps: { Self → Option Keep };
+
     /// How often a call has failed.
     ghost faults: { Self → ℕ };
 
@@ -29,6 +33,7 @@ pub trait Disk {
         ensures image { IfSome (state self.new) (λ disk. IsImage disk disk.bytes) }
         ensures answer { IfSome (outlook self.old) (λ o. is_ok result ≡ succeeds o.failing) }
         ensures next { outlook self.new ≡ option_map outlook_next (outlook self.old) }
+        ensures keeps { keeps self.new ≡ keeps self.old }
         ensures count { IsCount (faults self.new) }
         ensures cause { HasCause (faults self.old) (faults self.new) result };
 
@@ -41,6 +46,7 @@ pub trait Disk {
         ensures image { IfSome (state self.new) (λ disk. IsImage disk disk.bytes) }
         ensures answer { IfSome (outlook self.old) (λ o. is_ok result ≡ succeeds o.failing) }
         ensures next { outlook self.new ≡ option_map outlook_next (outlook self.old) }
+        ensures keeps { keeps self.new ≡ keeps self.old }
         ensures count { IsCount (faults self.new) }
         ensures cause { HasCause (faults self.old) (faults self.new) result };
 
@@ -59,6 +65,7 @@ pub trait Disk {
             (if nat_le (at + length from.now) o.room && is_done o.failing
             then option_map (after_write at from.now) (state self.old) else state self.old))) }
         ensures next { outlook self.new ≡ option_map outlook_next (outlook self.old) }
+        ensures keeps { keeps self.new ≡ keeps self.old }
         ensures count { IsCount (faults self.new) }
         ensures cause { HasCause (faults self.old) (faults self.new) result };
 
@@ -70,6 +77,7 @@ pub trait Disk {
         ensures image { IfSome (state self.new) (λ disk. IsImage disk disk.bytes) }
         ensures answer { IfSome (outlook self.old) (λ o. is_ok result ≡ succeeds o.failing) }
         ensures next { outlook self.new ≡ option_map outlook_next (outlook self.old) }
+        ensures keeps { keeps self.new ≡ keeps self.old }
         ensures count { IsCount (faults self.new) }
         ensures cause { HasCause (faults self.old) (faults self.new) result };
 }

@@ -24,6 +24,7 @@ pub(crate) fn write_durably<D: Disk>(disk: &mut D, at: u64, bytes: &[u8]) -> Res
         then option_map (after_write at bytes.now) (D.state disk.old) else D.state disk.old))) }
     ensures next { OnOk result (D.outlook disk.new ≡ option_map (λ o. outlook_next (outlook_next o)) (D.outlook disk.old)) }
     ensures quiet { IfSome (D.outlook disk.old) (λ o. o.failing ≡ never → D.outlook disk.new ≡ Some o) }
+    ensures keeps { D.keeps disk.new ≡ D.keeps disk.old }
     ensures count { IsCount (D.faults disk.new) }
     ensures cause { HasCause (D.faults disk.old) (D.faults disk.new) result }
 {

@@ -29,6 +29,7 @@ pub(crate) fn read_head<D: Disk>(disk: &mut D, gate: u64) -> Result<Head, Failed
     ensures same_past { D.past disk.new ≡ D.past disk.old }
     ensures failed { IfSome (D.outlook disk.old) (λ o. IsErr result → o.failing ≢ never) }
     ensures quiet { IfSome (D.outlook disk.old) (λ o. o.failing ≡ never → D.outlook disk.new ≡ Some o) }
+    ensures keeps { D.keeps disk.new ≡ D.keeps disk.old }
     ensures count { IsCount (D.faults disk.new) }
     ensures cause { HasCause (D.faults disk.old) (D.faults disk.new) result }
 {

@@ -52,6 +52,7 @@ impl Journal {
         ensures untouched { IsErrOf result JournalFault.JournalFull → disk.new ≡ disk.old }
         ensures faults { IfErr result (λ fault. (fault ≡ JournalFault.DiskFailed) ⊎ (fault ≡ JournalFault.JournalFull)) }
         ensures later { D.faults disk.old ≤ D.faults disk.new }
+        ensures keeps { D.keeps disk.new ≡ D.keeps disk.old }
         ensures count { IsCount (D.faults disk.old) → IsCount (D.faults disk.new) }
         ensures cause { IsErrOf result JournalFault.DiskFailed → Rose (D.faults disk.old) (D.faults disk.new) }
 

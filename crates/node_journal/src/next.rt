@@ -28,6 +28,7 @@ impl Reading {
         ensures same_past { D.past disk.new ≡ D.past disk.old }
         ensures not_full { result ≢ Err JournalFault.JournalFull }
         ensures later { D.faults disk.old ≤ D.faults disk.new }
+        ensures keeps { D.keeps disk.new ≡ D.keeps disk.old }
         ensures count { IsCount (D.faults disk.new) }
         ensures cause { IsErrOf result JournalFault.DiskFailed → Rose (D.faults disk.old) (D.faults disk.new) }
         ensures failed { IfSome (D.outlook disk.old) (λ o. IsErrOf result JournalFault.DiskFailed → o.failing ≢ never) }
@@ -56,6 +57,7 @@ impl Reading {
         ensures same_past { D.past disk.new ≡ D.past disk.old }
         ensures not_full { result ≢ Err JournalFault.JournalFull }
         ensures later { D.faults disk.old ≤ D.faults disk.new }
+        ensures keeps { D.keeps disk.new ≡ D.keeps disk.old }
         ensures count { IsCount (D.faults disk.old) → IsCount (D.faults disk.new) }
         ensures cause { IsErrOf result JournalFault.DiskFailed → Rose (D.faults disk.old) (D.faults disk.new) }
         ensures failed { IfSome (D.outlook disk.old) (λ o. IsErrOf result JournalFault.DiskFailed → o.failing ≢ never) }
@@ -95,6 +97,7 @@ fn read_payload<D: Disk>(
     ensures same_past { D.past disk.new ≡ D.past disk.old }
     ensures faults { IfErr result (λ fault. (fault ≡ JournalFault.DiskFailed) ⊎ (fault ≡ JournalFault.NoMemory)) }
     ensures later { D.faults disk.old ≤ D.faults disk.new }
+    ensures keeps { D.keeps disk.new ≡ D.keeps disk.old }
     ensures count { IsCount (D.faults disk.old) → IsCount (D.faults disk.new) }
     ensures cause { IsErrOf result JournalFault.DiskFailed → Rose (D.faults disk.old) (D.faults disk.new) }
     ensures failed { IfSome (D.outlook disk.old) (λ o. IsErrOf result JournalFault.DiskFailed → o.failing ≢ never) }

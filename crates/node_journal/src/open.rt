@@ -39,6 +39,7 @@ impl Journal {
 
         ensures faults { IfErr result (λ fault. fault ≡ JournalFault.DiskFailed) }
         ensures later { D.faults disk.old ≤ D.faults disk.new }
+        ensures keeps { D.keeps disk.new ≡ D.keeps disk.old }
         ensures count { IsCount (D.faults disk.new) }
         ensures cause { IsErrOf result JournalFault.DiskFailed → Rose (D.faults disk.old) (D.faults disk.new) }
         ensures failed { IfSome (D.outlook disk.old) (λ o. IsErr result → (o.failing ≢ never) ⊎ (o.room ≡ 0)) }
@@ -54,6 +55,7 @@ fn settle<D: Disk>(disk: &mut D) -> Result<(), Failed>
     ensures opened { OnOk result (D.state disk.new ≡ option_map (λ d. at_rest (opened d.bytes)) (D.state disk.old)) }
     ensures any_moment { IfSome (D.state disk.old) (λ d.
         AtEachMoment (D.past disk.old) (D.past disk.new) (D.state disk.new) (λ t. (t ≡ d) ⊎ KeepsPayloads d t)) }
+    ensures keeps { D.keeps disk.new ≡ D.keeps disk.old }
     ensures count { IsCount (D.faults disk.new) }
     ensures cause { HasCause (D.faults disk.old) (D.faults disk.new) result }
     ensures failed { IfSome (D.outlook disk.old) (λ o. IsErr result → (o.failing ≢ never) ⊎ (o.room ≡ 0)) }
