@@ -5,7 +5,7 @@ ghost use Rattle.disk_store.specs.Disk.{EachImage, at_rest};
 ghost use Rattle.disk_store.specs.Outlook.{never, outlook_next};
 ghost use Rattle.disk_store.specs.Moments.{AtEachMoment};
 ghost use Rattle.node_journal.specs.Frames.{IsReadTo, EndsAt};
-ghost use Rattle.node_journal.specs.Appending.{IsReady, IsBeforeOrAfter, sealed, end_of, lasts, failed_state, four_calls_later};
+ghost use Rattle.node_journal.specs.Appending.{IsReady, IsBeforeOrAfter, sealed, end_of, lasts, failed_state, spent, four_calls_later};
 
 use crate::device::write_durably;
 use crate::{Framed, JournalFault};
@@ -63,6 +63,8 @@ impl Journal {
             (if nat_le (end_of self.gate frame.now) o.room
             then option_map (failed_state o.failing self.gate frame.now) (D.state disk.old) else D.state disk.old)) }
         ensures calls { OnOk result (D.outlook disk.new ≡ option_map four_calls_later (D.outlook disk.old)) }
+        ensures spent { IfSome (D.outlook disk.old) (λ o. IsErrOf result JournalFault.DiskFailed →
+            D.outlook disk.new ≡ Some (spent (end_of self.gate frame.now) o)) }
         ensures quiet { IfSome (D.outlook disk.old) (λ o. o.failing ≡ never → D.outlook disk.new ≡ Some o) }
     {
         let bytes = frame.bytes();
