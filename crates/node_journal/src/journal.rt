@@ -4,7 +4,7 @@ ghost use Rattle.outside_io.specs.Causes.{IsCount, Rose};
 ghost use Rattle.disk_store.specs.Disk.{EachImage, at_rest};
 ghost use Rattle.disk_store.specs.Outlook.{never, outlook_next};
 ghost use Rattle.disk_store.specs.Moments.{AtEachMoment};
-ghost use Rattle.node_journal.specs.Frames.{IsReadTo, EndsAt};
+ghost use Rattle.node_journal.specs.Frames.{IsSmall, IsReadTo, EndsAt};
 ghost use Rattle.node_journal.specs.Appending.{IsReady, IsBeforeOrAfter, sealed, end_of, lasts, failed_state, spent, four_calls_later};
 
 use crate::device::write_durably;
@@ -48,6 +48,7 @@ impl Journal {
         ensures any_moment { IfSome (D.state disk.old) (λ d. (payloads : List (List ℕ)) → IsReadTo d.bytes self.gate payloads →
             AtEachMoment (D.past disk.old) (D.past disk.new) (D.state disk.new) (λ t. EachImage t (IsBeforeOrAfter payloads frame.now))) }
 
+        ensures small { IsSmall frame.now }
         ensures full { (result ≡ Err JournalFault.JournalFull) ↔ (self.limit < end_of self.gate frame.now) }
         ensures untouched { IsErrOf result JournalFault.JournalFull → disk.new ≡ disk.old }
         ensures faults { IfErr result (λ fault. (fault ≡ JournalFault.DiskFailed) ⊎ (fault ≡ JournalFault.JournalFull)) }
