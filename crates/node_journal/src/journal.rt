@@ -55,6 +55,7 @@ impl Journal {
         ensures later { D.faults disk.old ≤ D.faults disk.new }
         ensures keeps { D.keeps disk.new ≡ D.keeps disk.old }
         ensures count { IsCount (D.faults disk.old) → IsCount (D.faults disk.new) }
+        ensures steady { IsErrOf result JournalFault.DiskFailed ⊎ (D.faults disk.new ≡ D.faults disk.old) }
         ensures cause { IsErrOf result JournalFault.DiskFailed → Rose (D.faults disk.old) (D.faults disk.new) }
 
         // Where the outlook is told, the answer and the disk after it are exactly these.

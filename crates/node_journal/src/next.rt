@@ -30,6 +30,7 @@ impl Reading {
         ensures later { D.faults disk.old ≤ D.faults disk.new }
         ensures keeps { D.keeps disk.new ≡ D.keeps disk.old }
         ensures count { IsCount (D.faults disk.new) }
+        ensures steady { IsErrOf result JournalFault.DiskFailed ⊎ (D.faults disk.new ≡ D.faults disk.old) }
         ensures cause { IsErrOf result JournalFault.DiskFailed → Rose (D.faults disk.old) (D.faults disk.new) }
         ensures failed { IfSome (D.outlook disk.old) (λ o. IsErrOf result JournalFault.DiskFailed → o.failing ≢ never) }
         ensures quiet { IfSome (D.outlook disk.old) (λ o. o.failing ≡ never → D.outlook disk.new ≡ Some o) }
@@ -59,6 +60,7 @@ impl Reading {
         ensures later { D.faults disk.old ≤ D.faults disk.new }
         ensures keeps { D.keeps disk.new ≡ D.keeps disk.old }
         ensures count { IsCount (D.faults disk.old) → IsCount (D.faults disk.new) }
+        ensures steady { IsErrOf result JournalFault.DiskFailed ⊎ (D.faults disk.new ≡ D.faults disk.old) }
         ensures cause { IsErrOf result JournalFault.DiskFailed → Rose (D.faults disk.old) (D.faults disk.new) }
         ensures failed { IfSome (D.outlook disk.old) (λ o. IsErrOf result JournalFault.DiskFailed → o.failing ≢ never) }
         ensures quiet { IfSome (D.outlook disk.old) (λ o. o.failing ≡ never → D.outlook disk.new ≡ Some o) }
@@ -99,6 +101,7 @@ fn read_payload<D: Disk>(
     ensures later { D.faults disk.old ≤ D.faults disk.new }
     ensures keeps { D.keeps disk.new ≡ D.keeps disk.old }
     ensures count { IsCount (D.faults disk.old) → IsCount (D.faults disk.new) }
+    ensures steady { IsErrOf result JournalFault.DiskFailed ⊎ (D.faults disk.new ≡ D.faults disk.old) }
     ensures cause { IsErrOf result JournalFault.DiskFailed → Rose (D.faults disk.old) (D.faults disk.new) }
     ensures failed { IfSome (D.outlook disk.old) (λ o. IsErrOf result JournalFault.DiskFailed → o.failing ≢ never) }
     ensures quiet { IfSome (D.outlook disk.old) (λ o. o.failing ≡ never → D.outlook disk.new ≡ Some o) }

@@ -41,6 +41,7 @@ impl Journal {
         ensures later { D.faults disk.old ≤ D.faults disk.new }
         ensures keeps { D.keeps disk.new ≡ D.keeps disk.old }
         ensures count { IsCount (D.faults disk.new) }
+        ensures steady { IsErrOf result JournalFault.DiskFailed ⊎ (D.faults disk.new ≡ D.faults disk.old) }
         ensures cause { IsErrOf result JournalFault.DiskFailed → Rose (D.faults disk.old) (D.faults disk.new) }
         ensures failed { IfSome (D.outlook disk.old) (λ o. IsErr result → (o.failing ≢ never) ⊎ (o.room ≡ 0)) }
         ensures quiet { IfSome (D.outlook disk.old) (λ o. o.failing ≡ never → D.outlook disk.new ≡ Some o) }
