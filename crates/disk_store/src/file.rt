@@ -114,7 +114,7 @@ where
 }
 
 /// Reads from a place on until the buffer is full or the file ends; `None` where a read failed.
-fn read_all_at<F: FileExt>(file: &F, at: u64, into: &mut [u8]) -> Option<usize>
+pub(crate) fn read_all_at<F: FileExt>(file: &F, at: u64, into: &mut [u8]) -> Option<usize>
     ensures { IfSome result (λ count. count ≤ length into.new) }
 {
     let mut count = 0;
