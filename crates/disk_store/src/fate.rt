@@ -133,7 +133,8 @@ impl Fate {
     pub(crate) fn take_turn(&mut self, fits: bool) -> Turn
         ensures turn { result ≡ turn_of fits self.old }
         ensures next { self.new ≡ fate_next result self.old }
-        ensures count { IsCount self.old.faults }
+        ensures counted { IsCount self.old.faults }
+        ensures count { IsCount self.new.faults }
     {
         let named = self.fails.contains(&self.calls);
         let turn = turn_by(named, fits, self.script);

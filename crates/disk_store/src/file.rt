@@ -63,10 +63,13 @@ where
 
     ghost outlook = { λ _. None };
 
+    ghost keeps = { λ _. None };
+
     ghost faults = { λ f. f };
 
     fn len(&mut self) -> Result<u64, Failed>
         ensures after { MatchResult result (λ _. self.new ≡ self.old) (λ _. self.new ≡ one_more self.old) }
+        ensures count { IsCount self.new }
         ensures cause { HasCause self.old self.new result }
     {
         match self.file.metadata() {
@@ -78,6 +81,7 @@ where
     fn read_at(&mut self, at: u64, into: &mut [u8]) -> Result<usize, Failed>
         ensures after { MatchResult result (λ _. self.new ≡ self.old) (λ _. self.new ≡ one_more self.old) }
         ensures bound { IfOk result (λ count. count ≤ length into.new) }
+        ensures count { IsCount self.new }
         ensures cause { HasCause self.old self.new result }
     {
         match read_all_at(&self.file, at, into) {
@@ -88,6 +92,7 @@ where
 
     fn write_at(&mut self, at: u64, from: &[u8]) -> Result<(), Failed>
         ensures after { MatchResult result (λ _. self.new ≡ self.old) (λ _. self.new ≡ one_more self.old) }
+        ensures count { IsCount self.new }
         ensures cause { HasCause self.old self.new result }
     {
         match self.file.write_all_at(from, at) {
@@ -98,6 +103,7 @@ where
 
     fn sync(&mut self) -> Result<(), Failed>
         ensures after { MatchResult result (λ _. self.new ≡ self.old) (λ _. self.new ≡ one_more self.old) }
+        ensures count { IsCount self.new }
         ensures cause { HasCause self.old self.new result }
     {
         match self.file.sync_all() {
@@ -108,7 +114,7 @@ where
 }
 
 /// Reads from a place on until the buffer is full or the file ends; `None` where a read failed.
-fn read_all_at<F: FileExt>(file: &F, at: u64, into: &mut [u8]) -> Option<usize>
+pub(crate) fn read_all_at<F: FileExt>(file: &F, at: u64, into: &mut [u8]) -> Option<usize>
     ensures { IfSome result (λ count. count ≤ length into.new) }
 {
     let mut count = 0;

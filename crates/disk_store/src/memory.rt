@@ -1,7 +1,7 @@
 // A disk in memory.
 ghost use Rattle.std.specs.Prelude.{◌≡◌, ◌<◌, ◌+◌, ◌≤◌, ◌↔◌, Some, None, [], length, max, IfOk, IfSome, OnOk, OnErr, IsOk, IsTrue, is_ok, if◌then◌else◌, nat_le, true};
 ghost use Rattle.std.specs.Option.{ForSome};
-ghost use Rattle.outside_io.specs.Causes.{HasCause};
+ghost use Rattle.outside_io.specs.Causes.{HasCause, IsCount};
 ghost use Rattle.disk_store.specs.Disk.{IsImage, GivesBytes, MayHaveWritten, at_rest, after_write, after_sync};
 ghost use Rattle.disk_store.specs.Crash.{kept};
 ghost use Rattle.disk_store.specs.Fates.{turn_of, succeeded, was_done};
@@ -99,12 +99,16 @@ impl Disk for MemDisk {
 
     ghost outlook = { λ m. outlook_of m.fate.fails m.room m.fate.script };
 
+    ghost keeps = { λ m. Some (keep_of m.fate.script) };
+
     ghost faults = { λ m. m.fate.faults };
 
     fn len(&mut self) -> Result<u64, Failed>
         ensures answers { is_ok result ≡ succeeded (turn_of true self.old.fate) }
         ensures length { IfOk result (λ size. size ≡ length self.old.disk.bytes) }
         ensures exact { self.new ≡ after_call (turn_of true self.old.fate) self.old.disk self.old }
+        ensures keeps { keep_of self.new.fate.script ≡ keep_of self.old.fate.script }
+        ensures count { IsCount self.new.fate.faults }
         ensures cause { HasCause self.old.fate.faults self.new.fate.faults result }
         ensures image { IsImage self.new.disk self.new.disk.bytes }
     {
@@ -118,6 +122,8 @@ impl Disk for MemDisk {
         ensures answers { is_ok result ≡ succeeded (turn_of true self.old.fate) }
         ensures bytes { IfOk result (λ count. GivesBytes self.old.disk.bytes at into.new count) }
         ensures exact { self.new ≡ after_call (turn_of true self.old.fate) self.old.disk self.old }
+        ensures keeps { keep_of self.new.fate.script ≡ keep_of self.old.fate.script }
+        ensures count { IsCount self.new.fate.faults }
         ensures cause { HasCause self.old.fate.faults self.new.fate.faults result }
         ensures image { IsImage self.new.disk self.new.disk.bytes }
     {
@@ -134,6 +140,8 @@ impl Disk for MemDisk {
         ensures exact { let turn = turn_of (nat_le (at + length from.now) self.old.room) self.old.fate in
             self.new ≡ after_call turn (if_done turn (after_write at from.now self.old.disk) self.old.disk) self.old }
         ensures torn { OnErr result (MayHaveWritten at (length from.now) (Some self.old.disk) (Some self.new.disk)) }
+        ensures keeps { keep_of self.new.fate.script ≡ keep_of self.old.fate.script }
+        ensures count { IsCount self.new.fate.faults }
         ensures cause { HasCause self.old.fate.faults self.new.fate.faults result }
         ensures image { IsImage self.new.disk self.new.disk.bytes }
     {
@@ -149,6 +157,8 @@ impl Disk for MemDisk {
         ensures answers { is_ok result ≡ succeeded (turn_of true self.old.fate) }
         ensures exact { self.new ≡ after_call (turn_of true self.old.fate)
             (if succeeded (turn_of true self.old.fate) then after_sync self.old.disk else self.old.disk) self.old }
+        ensures keeps { keep_of self.new.fate.script ≡ keep_of self.old.fate.script }
+        ensures count { IsCount self.new.fate.faults }
         ensures cause { HasCause self.old.fate.faults self.new.fate.faults result }
         ensures image { IsImage self.new.disk self.new.disk.bytes }
     {

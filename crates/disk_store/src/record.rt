@@ -1,6 +1,6 @@
 // A disk in memory that tells all that it was.
 ghost use Rattle.std.specs.Prelude.{◌≡◌, ◌&&◌, ◌+◌, ◌-◌, ◌≤◌, ◌∷◌, [], ◌++◌, Some, None, length, IfOk, OnOk, OnErr, IsOk, is_ok, nat_lt, nat_le};
-ghost use Rattle.outside_io.specs.Causes.{HasCause};
+ghost use Rattle.outside_io.specs.Causes.{HasCause, IsCount};
 ghost use Rattle.disk_store.specs.Disk.{IsImage, GivesBytes, MayHaveWritten, at_rest, after_write, after_sync};
 ghost use Rattle.disk_store.specs.Fates.{one_more};
 ghost use Rattle.disk_store.specs.Records.{RecordState};
@@ -53,12 +53,15 @@ impl Disk for RecordDisk {
 
     ghost outlook = { λ r. None };
 
+    ghost keeps = { λ r. None };
+
     ghost faults = { λ r. r.faults };
 
     fn len(&mut self) -> Result<u64, Failed>
         ensures answers { IsOk result }
         ensures length { IfOk result (λ size. size ≡ length self.old.disk.bytes) }
         ensures exact { self.new ≡ self.old }
+        ensures count { IsCount self.new.faults }
         ensures image { IsImage self.new.disk self.new.disk.bytes }
     {
         Ok(self.history.len())
@@ -68,6 +71,7 @@ impl Disk for RecordDisk {
         ensures answers { IsOk result }
         ensures bytes { IfOk result (λ count. GivesBytes self.old.disk.bytes at into.new count) }
         ensures exact { self.new ≡ self.old }
+        ensures count { IsCount self.new.faults }
         ensures image { IsImage self.new.disk self.new.disk.bytes }
     {
         Ok(self.history.read(at, into))
@@ -87,6 +91,7 @@ impl Disk for RecordDisk {
         ensures err { OnErr result (self.new ≡ record self.old { faults = one_more self.old.faults }) }
         ensures torn { OnErr result (MayHaveWritten at (length from.now) (Some self.old.disk) (Some self.new.disk)) }
         ensures image { IsImage self.new.disk self.new.disk.bytes }
+        ensures count { IsCount self.new.faults }
         ensures cause { HasCause self.old.faults self.new.faults result }
     {
         if !self.history.has_room(from.len()) {
@@ -108,6 +113,7 @@ impl Disk for RecordDisk {
         }) }
         ensures err { OnErr result (self.new ≡ record self.old { faults = one_more self.old.faults }) }
         ensures image { IsImage self.new.disk self.new.disk.bytes }
+        ensures count { IsCount self.new.faults }
         ensures cause { HasCause self.old.faults self.new.faults result }
     {
         if !self.history.has_room(0) {

@@ -1,6 +1,11 @@
 use super::*;
+use crate::file::read_all_at;
 use helios_model::ids::SiteId;
 use std::alloc::Global;
+use std::cell::Cell;
+use std::io;
+use std::io::ErrorKind;
+use std::os::unix::fs::FileExt;
 use std::test::Fail;
 
 fn disk_of(alloc: Global, bytes: &[u8]) -> Result<MemDisk, Fail> {
@@ -31,6 +36,42 @@ fn a_file_is_written_synced_and_read_again(rt: HostRuntime) -> Result<(), Fail> 
     assert_eq!(rt; again.read_at(3, &mut part)?, 2);
     assert!(rt; FileDisk::over(&rt, "no/such/folder").is_err());
     Ok(())
+}
+
+/// A file that gives at most two bytes a read, and at which a signal comes before the first.
+#[derive(Drop)]
+struct SlowFile {
+    signalled: Cell<bool>,
+}
+
+impl FileExt for SlowFile {
+    fn read_at(&self, buf: &mut [u8], offset: u64) -> io::Result<usize> {
+        if !self.signalled.replace(true) {
+            return Err(ErrorKind::Interrupted.into());
+        }
+        let bytes = b"waitd".as_slice();
+        let rest = bytes.split_at(bytes.len().min(offset as usize)).1;
+        let count = rest.len().min(buf.len()).min(2);
+        buf[..count].copy_from_slice(&rest[..count]);
+        Ok(count)
+    }
+
+    fn write_at(&self, buf: &[u8], _offset: u64) -> io::Result<usize> {
+        Ok(buf.len())
+    }
+}
+
+#[test]
+fn a_file_is_read_to_its_end_in_pieces(rt: HostRuntime) {
+    let file = SlowFile {
+        signalled: Cell::new(false),
+    };
+    let mut buffer = [0u8; 8];
+    assert_eq!(rt; read_all_at(&file, 1, &mut buffer), Some(4));
+    assert!(rt; &buffer[..4] == b"aitd".as_slice());
+    let mut part = [0u8; 3];
+    assert_eq!(rt; read_all_at(&file, 0, &mut part), Some(3));
+    assert!(rt; part == *b"wai");
 }
 
 #[test]

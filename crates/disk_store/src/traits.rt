@@ -1,9 +1,10 @@
 ghost use Rattle.std.specs.Prelude.{◌≡◌, ◌&&◌, ℕ, ◌+◌, ◌≤◌, List, Option, length, option_map, is_ok, if◌then◌else◌, nat_le, IfOk, IfSome, OnOk, OnErr};
 ghost use Rattle.std.specs.Option.{ForSome};
-ghost use Rattle.outside_io.specs.Causes.{HasCause};
+ghost use Rattle.outside_io.specs.Causes.{HasCause, IsCount};
 ghost use Rattle.disk_store.specs.Disk.{DiskState, IsImage, GivesBytes, MayHaveWritten, after_write, after_sync};
 ghost use Rattle.disk_store.specs.Outlook.{Outlook, succeeds, is_done, outlook_next};
 ghost use Rattle.disk_store.specs.Moments.{Elapses};
+ghost use Rattle.disk_store.specs.declared.fate.Keep.{Keep};
 
 use outside_io::Failed;
 
@@ -18,6 +19,9 @@ pub trait Disk {
     /// The room and the call that is to fail, where the disk tells them.
     ghost outlook: { Self → Option Outlook };
 
+    /// What a crash leaves of what is not synced, where the disk tells it.
+    ghost keeps: { Self → Option Keep };
+
     /// How often a call has failed.
     ghost faults: { Self → ℕ };
 
@@ -29,6 +33,8 @@ pub trait Disk {
         ensures image { IfSome (state self.new) (λ disk. IsImage disk disk.bytes) }
         ensures answer { IfSome (outlook self.old) (λ o. is_ok result ≡ succeeds o.failing) }
         ensures next { outlook self.new ≡ option_map outlook_next (outlook self.old) }
+        ensures keeps { keeps self.new ≡ keeps self.old }
+        ensures count { IsCount (faults self.new) }
         ensures cause { HasCause (faults self.old) (faults self.new) result };
 
     /// Reads the bytes from a place on, up to the end or to the buffer's length, and gives their number.
@@ -40,6 +46,8 @@ pub trait Disk {
         ensures image { IfSome (state self.new) (λ disk. IsImage disk disk.bytes) }
         ensures answer { IfSome (outlook self.old) (λ o. is_ok result ≡ succeeds o.failing) }
         ensures next { outlook self.new ≡ option_map outlook_next (outlook self.old) }
+        ensures keeps { keeps self.new ≡ keeps self.old }
+        ensures count { IsCount (faults self.new) }
         ensures cause { HasCause (faults self.old) (faults self.new) result };
 
     /// Writes over the bytes from a place on, and past the end; the place is at most the length.
@@ -57,6 +65,8 @@ pub trait Disk {
             (if nat_le (at + length from.now) o.room && is_done o.failing
             then option_map (after_write at from.now) (state self.old) else state self.old))) }
         ensures next { outlook self.new ≡ option_map outlook_next (outlook self.old) }
+        ensures keeps { keeps self.new ≡ keeps self.old }
+        ensures count { IsCount (faults self.new) }
         ensures cause { HasCause (faults self.old) (faults self.new) result };
 
     /// Makes all that was written durable. A sync that fails counts as none.
@@ -67,5 +77,7 @@ pub trait Disk {
         ensures image { IfSome (state self.new) (λ disk. IsImage disk disk.bytes) }
         ensures answer { IfSome (outlook self.old) (λ o. is_ok result ≡ succeeds o.failing) }
         ensures next { outlook self.new ≡ option_map outlook_next (outlook self.old) }
+        ensures keeps { keeps self.new ≡ keeps self.old }
+        ensures count { IsCount (faults self.new) }
         ensures cause { HasCause (faults self.old) (faults self.new) result };
 }

@@ -1,11 +1,13 @@
 -- What a crash leaves after an `append` was stopped.
-use Rattle.std.proofs.Common.{◌≡◌, ◌≢◌, inl, inr, ℕ, ◌+◌, ◌-◌, ◌<◌, ◌≤◌, true, false, ◌==◌, nat_le, if◌then◌else◌, List, [], ◌∷◌, ◌++◌, length, get_or, replicate, refl, sym, ◌∙◌, ap, subst, arith}
+use Rattle.std.proofs.Common.{◌≡◌, ◌≢◌, inl, inr, ℕ, ◌+◌, ◌-◌, ◌<◌, ◌≤◌, true, false, ◌==◌, nat_le, if◌then◌else◌, List, [], ◌∷◌, ◌++◌, length, get_or, replicate, Option, Some, option_map, IfSome, refl, sym, ◌∙◌, ap, subst, arith}
 use Rattle.std.proofs.lemmas.Bool.{cases_eq, cases_lt}
 use Rattle.std.proofs.lemmas.Bool.Decides.{nat_tests}
 use Rattle.std.proofs.lemmas.List.{length-replicate}
 use Rattle.disk_store.specs.Disk.{DiskState, at_rest, over, after_write}
 use Rattle.disk_store.specs.Crash.{kept}
 use Rattle.disk_store.specs.Records.{ReadsAs}
+use Rattle.disk_store.specs.Memory.{outlook_of, keep_of}
+use Rattle.disk_store.specs.declared.fate.Script.{Script}
 use Rattle.disk_store.specs.declared.fate.Keep.{Keep}
 use Rattle.disk_store.specs.declared.fate.Keep.TheVariants.{All, Nothing, Byte}
 use Rattle.disk_store.proofs.Over.{over_within, length-over}
@@ -13,7 +15,7 @@ use Rattle.disk_store.proofs.Fill.{kept_image, fill_marked}
 use Rattle.disk_store.proofs.Records.{reads_write}
 use Rattle.disk_store.proofs.Torn.{write_is_torn}
 use Rattle.node_journal.specs.Frames.{IsSmall, frame_of, IsReadTo, StandsFor}
-use Rattle.node_journal.specs.Appending.{IsReady, sealed, framed, stopped_at, is_kept}
+use Rattle.node_journal.specs.Appending.{IsReady, end_of, sealed, framed, stopped_at, failed_state, is_kept}
 use Rattle.node_journal.proofs.Images.{TornFrom, torn_images, staged, staged_before, staged_within, staged_gate, gate_opened, sealed_ends, frame_images, ends_kept}
 
 rest_reads : (bytes : List ℕ) → ReadsAs (at_rest bytes) bytes
@@ -107,3 +109,29 @@ pub stopped_stands : (call gate : ℕ) (keep : Keep) (payload : List ℕ) (paylo
 stopped_stands call gate keep payload payloads disk some few ready read small =
     subst (λ (d : DiskState). StandsFor (kept keep (stopped_at call gate payload d)) (if is_kept call keep then payloads ++ payload ∷ [] else payloads)) (sym ready.at_rest)
     (stopped gate payload disk.bytes ready.within payloads read ready.closed small call keep)
+
+-- What an `append` that failed left is what the stopped call left, by the clause on the outlook.
+stop_left : (fails : List ℕ) (room : ℕ) (script : Script) (gate : ℕ) (payload : List ℕ) (old new : DiskState) (failed : Type 0)
+    → fails ≡ [] → 1 ≤ script.left → end_of gate payload ≤ room → failed
+    → IfSome (outlook_of fails room (Some script)) (λ o. failed → Some new ≡ (if nat_le (end_of gate payload) o.room then option_map (failed_state o.failing gate payload) (Some old) else Some old))
+    → new ≡ stopped_at script.left gate payload old
+stop_left [] room script gate payload old new failed none some fits fault left =
+    let test : nat_le (end_of gate payload) room ≡ true = grind (arith, nat_tests) in
+    let later : (script.left == 0) ≡ false = grind (arith, nat_tests) in
+    let told : Some new ≡ Some (stopped_at script.left gate payload old) = rw (test, later) at left fault in
+    cc
+stop_left (number ∷ fails) room script gate payload old new failed none some fits fault left = absurd (let clash = none in cc)
+
+-- a stop at one of the four calls, and then a crash by its script
+pub crash_stands : (fails : List ℕ) (room : ℕ) (script : Script) (after : Option Script) (gate : ℕ) (payload image : List ℕ) (old new : DiskState) (failed : Type 0)
+    → fails ≡ [] → 1 ≤ script.left → script.left ≤ 4 → end_of gate payload ≤ room → IsReady old gate → IsSmall payload → failed
+    → IfSome (outlook_of fails room (Some script)) (λ o. failed → Some new ≡ (if nat_le (end_of gate payload) o.room then option_map (failed_state o.failing gate payload) (Some old) else Some old))
+    → Some (keep_of after) ≡ Some script.keep → image ≡ kept (keep_of after) new
+    → (payloads : List (List ℕ)) → IsReadTo old.bytes gate payloads
+    → StandsFor image (if is_kept script.left script.keep then payloads ++ payload ∷ [] else payloads)
+crash_stands fails room script after gate payload image old new failed none some few fits ready small fault left keeps is payloads read =
+    let keep_is : keep_of after ≡ script.keep = cc in
+    let new_is : new ≡ stopped_at script.left gate payload old = stop_left fails room script gate payload old new failed none some fits fault left in
+    let whole : image ≡ kept script.keep (stopped_at script.left gate payload old) = is ∙ ap (λ (keep : Keep). kept keep new) keep_is ∙ ap (kept script.keep) new_is in
+    subst (λ (l : List ℕ). StandsFor l (if is_kept script.left script.keep then payloads ++ payload ∷ [] else payloads)) (sym whole)
+    (stopped_stands script.left gate script.keep payload payloads old some few ready read small)

@@ -56,6 +56,11 @@ is_kept call (Byte byte) = nat_le 3 call && (byte == 1)
 abbrev pub WhileWriting : ℕ → List ℕ → DiskState → DiskState → Type 0
 WhileWriting at bytes old disk = (disk ≡ old) ⊎ TornWrite at (length bytes) old disk ⊎ (disk ≡ after_sync (after_write at bytes old))
 
+-- The outlook after bytes that end at this place were to be written, and a call failed: where they fit, that call
+-- is past, else it was the write that found no room.
+abbrev pub spent : ℕ → Outlook → Outlook
+spent end outlook = if nat_le end outlook.room then record { room = outlook.room; failing = already } else outlook_next outlook
+
 -- the outlook once four calls were made
 abbrev pub four_calls_later : Outlook → Outlook
 four_calls_later outlook = outlook_next (outlook_next (outlook_next (outlook_next outlook)))

@@ -1,11 +1,11 @@
 // Bytes that are written and made durable at once.
 ghost use Rattle.std.specs.Prelude.{◌≡◌, ◌+◌, ◌≤◌, ◌&&◌, Some, length, option_map, is_ok, is_some, nat_le, if◌then◌else◌, IfSome, OnOk, OnErr};
 ghost use Rattle.std.specs.Option.{ForSome};
-ghost use Rattle.outside_io.specs.Causes.{HasCause};
+ghost use Rattle.outside_io.specs.Causes.{HasCause, IsCount};
 ghost use Rattle.disk_store.specs.Disk.{MayHaveWritten, after_write, after_sync};
 ghost use Rattle.disk_store.specs.Outlook.{never, is_done, outlook_next};
 ghost use Rattle.disk_store.specs.Moments.{AtEachMoment};
-ghost use Rattle.node_journal.specs.Appending.{lasts, WhileWriting};
+ghost use Rattle.node_journal.specs.Appending.{lasts, spent, WhileWriting};
 
 use disk_store::Disk;
 use outside_io::Failed;
@@ -23,7 +23,10 @@ pub(crate) fn write_durably<D: Disk>(disk: &mut D, at: u64, bytes: &[u8]) -> Res
         (if nat_le (at + length bytes.now) o.room && is_done o.failing
         then option_map (after_write at bytes.now) (D.state disk.old) else D.state disk.old))) }
     ensures next { OnOk result (D.outlook disk.new ≡ option_map (λ o. outlook_next (outlook_next o)) (D.outlook disk.old)) }
+    ensures spent { IfSome (D.outlook disk.old) (λ o. OnErr result (D.outlook disk.new ≡ Some (spent (at + length bytes.now) o))) }
     ensures quiet { IfSome (D.outlook disk.old) (λ o. o.failing ≡ never → D.outlook disk.new ≡ Some o) }
+    ensures keeps { D.keeps disk.new ≡ D.keeps disk.old }
+    ensures count { IsCount (D.faults disk.new) }
     ensures cause { HasCause (D.faults disk.old) (D.faults disk.new) result }
 {
     disk.write_at(at, bytes)?;

@@ -1,7 +1,7 @@
 // A gate and the length behind it.
 ghost use Rattle.std.specs.Prelude.{◌≡◌, ◌≢◌, ◌<◌, ◌≤◌, ◌+◌, Some, length, take, ◌∷◌, slice_index, option_map, IfSome, IfOk, is_ok, IsErr, OnErr};
 ghost use Rattle.std.specs.Option.{ForSome};
-ghost use Rattle.outside_io.specs.Causes.{HasCause};
+ghost use Rattle.outside_io.specs.Causes.{HasCause, IsCount};
 ghost use Rattle.disk_store.specs.Disk.{GivesBytes};
 ghost use Rattle.disk_store.specs.Outlook.{never};
 ghost use Rattle.node_journal.specs.Frames.{length_bytes, length_from};
@@ -29,6 +29,8 @@ pub(crate) fn read_head<D: Disk>(disk: &mut D, gate: u64) -> Result<Head, Failed
     ensures same_past { D.past disk.new ≡ D.past disk.old }
     ensures failed { IfSome (D.outlook disk.old) (λ o. IsErr result → o.failing ≢ never) }
     ensures quiet { IfSome (D.outlook disk.old) (λ o. o.failing ≡ never → D.outlook disk.new ≡ Some o) }
+    ensures keeps { D.keeps disk.new ≡ D.keeps disk.old }
+    ensures count { IsCount (D.faults disk.new) }
     ensures cause { HasCause (D.faults disk.old) (D.faults disk.new) result }
 {
     let mut bytes = [0u8; 5];

@@ -1,11 +1,11 @@
 ghost use Rattle.std.specs.Prelude.{◌≡◌, ◌⊎◌, ◌↔◌, ◌&&◌, ◌+◌, ◌<◌, ◌≤◌, ◌∷◌, [], ◌++◌, List, ℕ, Some, length, option_map, is_ok, nat_le, if◌then◌else◌, IfSome, IfOk, IfErr, OnOk, OnErr, IsErrOf};
 ghost use Rattle.std.specs.Option.{ForSome};
-ghost use Rattle.outside_io.specs.Causes.{Rose};
+ghost use Rattle.outside_io.specs.Causes.{IsCount, Rose};
 ghost use Rattle.disk_store.specs.Disk.{EachImage, at_rest};
 ghost use Rattle.disk_store.specs.Outlook.{never, outlook_next};
 ghost use Rattle.disk_store.specs.Moments.{AtEachMoment};
-ghost use Rattle.node_journal.specs.Frames.{IsReadTo, EndsAt};
-ghost use Rattle.node_journal.specs.Appending.{IsReady, IsBeforeOrAfter, sealed, end_of, lasts, failed_state, four_calls_later};
+ghost use Rattle.node_journal.specs.Frames.{IsSmall, IsReadTo, EndsAt};
+ghost use Rattle.node_journal.specs.Appending.{IsReady, IsBeforeOrAfter, sealed, end_of, lasts, failed_state, spent, four_calls_later};
 
 use crate::device::write_durably;
 use crate::{Framed, JournalFault};
@@ -48,10 +48,14 @@ impl Journal {
         ensures any_moment { IfSome (D.state disk.old) (λ d. (payloads : List (List ℕ)) → IsReadTo d.bytes self.gate payloads →
             AtEachMoment (D.past disk.old) (D.past disk.new) (D.state disk.new) (λ t. EachImage t (IsBeforeOrAfter payloads frame.now))) }
 
+        ensures small { IsSmall frame.now }
         ensures full { (result ≡ Err JournalFault.JournalFull) ↔ (self.limit < end_of self.gate frame.now) }
         ensures untouched { IsErrOf result JournalFault.JournalFull → disk.new ≡ disk.old }
         ensures faults { IfErr result (λ fault. (fault ≡ JournalFault.DiskFailed) ⊎ (fault ≡ JournalFault.JournalFull)) }
         ensures later { D.faults disk.old ≤ D.faults disk.new }
+        ensures keeps { D.keeps disk.new ≡ D.keeps disk.old }
+        ensures count { IsCount (D.faults disk.old) → IsCount (D.faults disk.new) }
+        ensures steady { IsErrOf result JournalFault.DiskFailed ⊎ (D.faults disk.new ≡ D.faults disk.old) }
         ensures cause { IsErrOf result JournalFault.DiskFailed → Rose (D.faults disk.old) (D.faults disk.new) }
 
         // Where the outlook is told, the answer and the disk after it are exactly these.
@@ -61,6 +65,8 @@ impl Journal {
             (if nat_le (end_of self.gate frame.now) o.room
             then option_map (failed_state o.failing self.gate frame.now) (D.state disk.old) else D.state disk.old)) }
         ensures calls { OnOk result (D.outlook disk.new ≡ option_map four_calls_later (D.outlook disk.old)) }
+        ensures spent { IfSome (D.outlook disk.old) (λ o. IsErrOf result JournalFault.DiskFailed →
+            D.outlook disk.new ≡ Some (spent (end_of self.gate frame.now) o)) }
         ensures quiet { IfSome (D.outlook disk.old) (λ o. o.failing ≡ never → D.outlook disk.new ≡ Some o) }
     {
         let bytes = frame.bytes();

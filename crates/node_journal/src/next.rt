@@ -1,6 +1,6 @@
 ghost use Rattle.std.specs.Prelude.{◌≡◌, ◌≢◌, ◌⊎◌, ◌+◌, ◌<◌, ◌≤◌, List, ℕ, Some, length, take, drop, IfSome, IfOk, IfErr, IsErr, IsErrOf};
 ghost use Rattle.std.specs.Option.{ForSome};
-ghost use Rattle.outside_io.specs.Causes.{Rose};
+ghost use Rattle.outside_io.specs.Causes.{IsCount, Rose};
 ghost use Rattle.disk_store.specs.Outlook.{never};
 ghost use Rattle.node_journal.specs.Frames.{IsReadTo};
 ghost use Rattle.node_journal.specs.Heads.{HasLength};
@@ -28,6 +28,9 @@ impl Reading {
         ensures same_past { D.past disk.new ≡ D.past disk.old }
         ensures not_full { result ≢ Err JournalFault.JournalFull }
         ensures later { D.faults disk.old ≤ D.faults disk.new }
+        ensures keeps { D.keeps disk.new ≡ D.keeps disk.old }
+        ensures count { IsCount (D.faults disk.new) }
+        ensures steady { IsErrOf result JournalFault.DiskFailed ⊎ (D.faults disk.new ≡ D.faults disk.old) }
         ensures cause { IsErrOf result JournalFault.DiskFailed → Rose (D.faults disk.old) (D.faults disk.new) }
         ensures failed { IfSome (D.outlook disk.old) (λ o. IsErrOf result JournalFault.DiskFailed → o.failing ≢ never) }
         ensures quiet { IfSome (D.outlook disk.old) (λ o. o.failing ≡ never → D.outlook disk.new ≡ Some o) }
@@ -55,6 +58,9 @@ impl Reading {
         ensures same_past { D.past disk.new ≡ D.past disk.old }
         ensures not_full { result ≢ Err JournalFault.JournalFull }
         ensures later { D.faults disk.old ≤ D.faults disk.new }
+        ensures keeps { D.keeps disk.new ≡ D.keeps disk.old }
+        ensures count { IsCount (D.faults disk.old) → IsCount (D.faults disk.new) }
+        ensures steady { IsErrOf result JournalFault.DiskFailed ⊎ (D.faults disk.new ≡ D.faults disk.old) }
         ensures cause { IsErrOf result JournalFault.DiskFailed → Rose (D.faults disk.old) (D.faults disk.new) }
         ensures failed { IfSome (D.outlook disk.old) (λ o. IsErrOf result JournalFault.DiskFailed → o.failing ≢ never) }
         ensures quiet { IfSome (D.outlook disk.old) (λ o. o.failing ≡ never → D.outlook disk.new ≡ Some o) }
@@ -93,6 +99,9 @@ fn read_payload<D: Disk>(
     ensures same_past { D.past disk.new ≡ D.past disk.old }
     ensures faults { IfErr result (λ fault. (fault ≡ JournalFault.DiskFailed) ⊎ (fault ≡ JournalFault.NoMemory)) }
     ensures later { D.faults disk.old ≤ D.faults disk.new }
+    ensures keeps { D.keeps disk.new ≡ D.keeps disk.old }
+    ensures count { IsCount (D.faults disk.old) → IsCount (D.faults disk.new) }
+    ensures steady { IsErrOf result JournalFault.DiskFailed ⊎ (D.faults disk.new ≡ D.faults disk.old) }
     ensures cause { IsErrOf result JournalFault.DiskFailed → Rose (D.faults disk.old) (D.faults disk.new) }
     ensures failed { IfSome (D.outlook disk.old) (λ o. IsErrOf result JournalFault.DiskFailed → o.failing ≢ never) }
     ensures quiet { IfSome (D.outlook disk.old) (λ o. o.failing ≡ never → D.outlook disk.new ≡ Some o) }

@@ -1,6 +1,6 @@
 ghost use Rattle.std.specs.Prelude.{◌≡◌, ◌≢◌, ◌⊎◌, ◌^◌, ◌<◌, ◌≤◌, [], Some, length, option_map, IfSome, IfOk, IfErr, IsErr, OnOk, IsErrOf};
 ghost use Rattle.std.specs.Option.{ForSome};
-ghost use Rattle.outside_io.specs.Causes.{HasCause, Rose};
+ghost use Rattle.outside_io.specs.Causes.{HasCause, IsCount, Rose};
 ghost use Rattle.disk_store.specs.Disk.{IsAtRest, at_rest};
 ghost use Rattle.disk_store.specs.Outlook.{never};
 ghost use Rattle.disk_store.specs.Moments.{AtEachMoment};
@@ -39,6 +39,9 @@ impl Journal {
 
         ensures faults { IfErr result (λ fault. fault ≡ JournalFault.DiskFailed) }
         ensures later { D.faults disk.old ≤ D.faults disk.new }
+        ensures keeps { D.keeps disk.new ≡ D.keeps disk.old }
+        ensures count { IsCount (D.faults disk.new) }
+        ensures steady { IsErrOf result JournalFault.DiskFailed ⊎ (D.faults disk.new ≡ D.faults disk.old) }
         ensures cause { IsErrOf result JournalFault.DiskFailed → Rose (D.faults disk.old) (D.faults disk.new) }
         ensures failed { IfSome (D.outlook disk.old) (λ o. IsErr result → (o.failing ≢ never) ⊎ (o.room ≡ 0)) }
         ensures quiet { IfSome (D.outlook disk.old) (λ o. o.failing ≡ never → D.outlook disk.new ≡ Some o) }
@@ -53,6 +56,8 @@ fn settle<D: Disk>(disk: &mut D) -> Result<(), Failed>
     ensures opened { OnOk result (D.state disk.new ≡ option_map (λ d. at_rest (opened d.bytes)) (D.state disk.old)) }
     ensures any_moment { IfSome (D.state disk.old) (λ d.
         AtEachMoment (D.past disk.old) (D.past disk.new) (D.state disk.new) (λ t. (t ≡ d) ⊎ KeepsPayloads d t)) }
+    ensures keeps { D.keeps disk.new ≡ D.keeps disk.old }
+    ensures count { IsCount (D.faults disk.new) }
     ensures cause { HasCause (D.faults disk.old) (D.faults disk.new) result }
     ensures failed { IfSome (D.outlook disk.old) (λ o. IsErr result → (o.failing ≢ never) ⊎ (o.room ≡ 0)) }
     ensures quiet { IfSome (D.outlook disk.old) (λ o. o.failing ≡ never → D.outlook disk.new ≡ Some o) }

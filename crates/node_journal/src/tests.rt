@@ -1,20 +1,35 @@
-ghost use Rattle.std.specs.Prelude.{◌≤◌, ◌^◌};
+ghost use Rattle.std.specs.Prelude.{◌≡◌, ◌≤◌, ◌<◌, ◌^◌, ◌+◌, ◌++◌, ◌∷◌, [], ℕ, List, Some, None, length, if◌then◌else◌, IfOk, IfSome};
+ghost use Rattle.std.specs.Option.{ForSome};
+ghost use Rattle.disk_store.specs.Disk.{at_rest};
+ghost use Rattle.disk_store.specs.Outlook.{never};
+ghost use Rattle.node_journal.specs.Frames.{IsReadTo, StandsFor};
+ghost use Rattle.node_journal.specs.Appending.{IsReady, end_of, is_kept};
 
 use super::*;
 use disk_store::{Disk, FileDisk, Keep, MemDisk, RecordDisk, Stop};
 use helios_model::numbers::Bytes;
+use outside_io::Failed;
 use std::alloc::{AllocError, Global};
+use std::marker::Model;
 use std::test::Fail;
 
 /// The payload `aa`.
-fn frame_aa(alloc: Global) -> Result<Framed, AllocError> {
+fn frame_aa(alloc: Global) -> Result<Framed, AllocError>
+    ensures { IfOk result (λ frame. frame ≡ 170 ∷ []) }
+{
     let mut bytes = Vec::new(alloc);
     bytes.push(0xaa)?;
     Framed::new(Bytes::new(bytes))
 }
 
 /// A disk in memory with these bytes and room for more.
-fn memory(alloc: Global, bytes: &[u8]) -> Result<MemDisk, AllocError> {
+fn memory(alloc: Global, bytes: &[u8]) -> Result<MemDisk, AllocError>
+    ensures { IfOk result (λ disk. disk ≡ record {
+      disk = at_rest bytes.now;
+      room = length bytes.now + 16;
+      fate = record { script = None; fails = []; calls = 0; faults = 0 };
+    }) }
+{
     let held = Vec::from_slice(alloc, bytes)?;
     let room = held.len() as u64;
     let mut disk = MemDisk::new(held, room)?;
@@ -23,7 +38,9 @@ fn memory(alloc: Global, bytes: &[u8]) -> Result<MemDisk, AllocError> {
 }
 
 /// Whether a disk, which has at most 16 bytes, reads as these.
-fn reads_as<D: Disk>(disk: &mut D, wanted: &[u8]) -> bool {
+fn reads_as<D: Disk>(disk: &mut D, wanted: &[u8]) -> bool
+    ensures { D.state disk.new ≡ D.state disk.old }
+{
     let mut buffer = [0u8; 16];
     match disk.read_at(0, &mut buffer) {
         Ok(count) => &buffer[..count] == wanted,
@@ -31,27 +48,41 @@ fn reads_as<D: Disk>(disk: &mut D, wanted: &[u8]) -> bool {
     }
 }
 
-/// Opens a journal, and adds a payload where there is none.
+/// Opens a journal, and gives it at its end where it has no payload.
+fn at_end<D: Disk>(alloc: Global, disk: &mut D, limit: u64) -> Result<Option<Journal>, JournalFault>
+    requires some { 1 ≤ limit }
+    requires bounded { limit ≤ 2 ^ 40 }
+    ensures ready { IfOk result (λ found. IfSome found (λ journal. ForSome (D.state disk.new) (λ d. IsReady d journal.gate))) }
+    ensures journal { IfOk result (λ found. IfSome found (λ journal. IfSome (D.state disk.old) (λ _. journal ≡ record { gate = 0; limit = limit }))) }
+    ensures quiet { IfSome (D.outlook disk.old) (λ o. o.failing ≡ never → D.outlook disk.new ≡ Some o) }
+{
+    match Journal::open(disk, limit)?.next(alloc, disk)? {
+        Found::Last(journal) => Ok(Some(journal)),
+        Found::Frame {
+            reading: _reading,
+            at: _at,
+            payload: _payload,
+        } => Ok(None),
+    }
+}
+
+/// Adds a payload to the journal of an empty disk, and says whether the disk reads as one closed gate before and
+/// as the payload `aa` after.
 fn add_first<D: Disk>(
     alloc: Global,
     disk: &mut D,
     limit: u64,
     frame: &Framed,
-) -> Result<(), JournalFault>
+) -> Result<bool, JournalFault>
     requires some { 1 ≤ limit }
     requires bounded { limit ≤ 2 ^ 40 }
 {
-    match Journal::open(disk, limit)?.next(alloc, disk)? {
-        Found::Last(journal) => {
-            let _journal = journal.append(disk, frame)?;
-            Ok(())
-        }
-        Found::Frame {
-            reading: _reading,
-            at: _at,
-            payload: _payload,
-        } => Ok(()),
-    }
+    let Some(journal) = at_end(alloc, disk, limit)? else {
+        return Ok(false);
+    };
+    let made = reads_as(disk, b"\0");
+    let _journal = journal.append(disk, frame)?;
+    Ok(made && reads_as(disk, b"\x01\0\0\0\x01\xaa\0"))
 }
 
 /// The first payload of a journal that is opened anew, and its place.
@@ -65,40 +96,111 @@ fn first_payload<D: Disk>(
     }
 }
 
+/// The reading behind the frame at its gate, where that stands at this place and has this payload.
+fn past_frame<D: Disk>(
+    reading: Reading,
+    alloc: Global,
+    disk: &mut D,
+    place: u64,
+    wanted: &[u8],
+) -> Result<Option<Reading>, JournalFault>
+    requires { ForSome (D.state disk.old) (λ d. reading.gate < length d.bytes) }
+    ensures { IfOk result (λ found. IfSome found (λ reading. ForSome (D.state disk.new) (λ d. reading.gate < length d.bytes))) }
+{
+    match reading.next(alloc, disk)? {
+        Found::Frame {
+            reading,
+            at,
+            payload,
+        } => {
+            if at != place || payload.items() != wanted {
+                return Ok(None);
+            }
+            Ok(Some(reading))
+        }
+        Found::Last(_) => Ok(None),
+    }
+}
+
+/// Whether a journal has the payloads `aa` and `bb cc`, at the places 0 and 6, and ends there.
+fn has_two<D: Disk>(alloc: Global, disk: &mut D) -> Result<bool, JournalFault> {
+    let reading = Journal::open(disk, 100)?;
+    let Some(reading) = past_frame(reading, alloc, disk, 0, b"\xaa")? else {
+        return Ok(false);
+    };
+    let Some(reading) = past_frame(reading, alloc, disk, 6, b"\xbb\xcc")? else {
+        return Ok(false);
+    };
+    Ok(matches!(reading.next(alloc, disk), Ok(Found::Last(_))))
+}
+
+#[test]
+fn an_empty_disk_becomes_a_closed_gate(rt: HostRuntime) -> Result<(), Fail> {
+    let alloc = rt.alloc();
+    let mut disk = memory(alloc, b"")?;
+    assert!(rt; at_end(alloc, &mut disk, 7)?.is_some() && reads_as(&mut disk, b"\0"));
+    let mut record = RecordDisk::new(Vec::new(alloc), 16, 64)?;
+    assert!(rt; at_end(alloc, &mut record, 7)?.is_some() && reads_as(&mut record, b"\0"));
+    Ok(())
+}
+
 #[test]
 fn a_payload_is_added_up_to_the_limit(rt: HostRuntime) -> Result<(), Fail> {
     let alloc = rt.alloc();
     let frame = frame_aa(alloc)?;
     let mut disk = memory(alloc, b"")?;
-    assert!(rt; first_payload(alloc, &mut disk)?.is_none() && reads_as(&mut disk, b"\0"));
-    add_first(alloc, &mut disk, 7, &frame)?;
-    assert!(rt; reads_as(&mut disk, b"\x01\0\0\0\x01\xaa\0"));
+    assert_eq!(rt; add_first(alloc, &mut disk, 7, &frame), Ok(true));
     let mut record = RecordDisk::new(Vec::new(alloc), 16, 64)?;
-    assert!(rt; first_payload(alloc, &mut record)?.is_none() && reads_as(&mut record, b"\0"));
-    add_first(alloc, &mut record, 7, &frame)?;
-    assert!(rt; reads_as(&mut record, b"\x01\0\0\0\x01\xaa\0"));
+    assert_eq!(rt; add_first(alloc, &mut record, 7, &frame), Ok(true));
     let mut small = memory(alloc, b"")?;
-    assert_eq!(rt;
-        add_first(alloc, &mut small, 6, &frame),
-        Err(JournalFault::JournalFull)
-    );
+    let full = add_first(alloc, &mut small, 6, &frame);
+    assert_eq!(rt; full, Err(JournalFault::JournalFull));
     assert!(rt; reads_as(&mut small, b"\0"));
     Ok(())
 }
 
+#[test]
+fn payloads_are_read_in_order(rt: HostRuntime) -> Result<(), Fail> {
+    let alloc = rt.alloc();
+    let mut disk = memory(alloc, b"\x01\0\0\0\x01\xaa\x01\0\0\0\x02\xbb\xcc\0")?;
+    assert!(rt; has_two(alloc, &mut disk)?);
+    Ok(())
+}
+
+/// Adds a payload to a disk that stops at one of the four calls, and lets it crash.
+fn add_and_crash(
+    disk: &mut MemDisk,
+    journal: Journal,
+    frame: &Framed,
+    stop: Stop,
+) -> Result<Journal, JournalFault>
+    requires ready { IsReady disk.old.disk journal.gate }
+    requires fails { disk.old.fate.fails ≡ [] }
+    requires some { 1 ≤ stop.call }
+    requires few { stop.call ≤ 4 }
+    requires room { end_of journal.gate frame.now ≤ disk.old.room }
+    requires limit { end_of journal.gate frame.now ≤ journal.limit }
+    ensures failed { result ≡ Err JournalFault.DiskFailed }
+    ensures stands { (payloads : List (List ℕ)) → IsReadTo disk.old.disk.bytes journal.gate payloads →
+        StandsFor disk.new.disk.bytes (if is_kept stop.call stop.keep then payloads ++ frame.now ∷ [] else payloads) }
+{
+    disk.script(stop);
+    let answer = journal.append(disk, frame);
+    disk.crash();
+    answer
+}
+
 /// What a stop at this call of an `append` leaves, and whether the payload is there then.
 fn stopped(alloc: Global, call: u8, keep: Keep, wanted: &[u8]) -> Result<(bool, bool), JournalFault>
-    requires { call ≤ 4 }
+    requires some { 1 ≤ call }
+    requires few { call ≤ 4 }
 {
-    let mut disk = memory(alloc, b"\0")?;
+    let mut disk = memory(alloc, b"")?;
     let frame = frame_aa(alloc)?;
-    // The calls before are four to open and one to read.
-    disk.script(Stop {
-        call: call + 5,
-        keep,
-    });
-    let failed = add_first(alloc, &mut disk, 100, &frame).is_err();
-    disk.crash();
+    let Some(journal) = at_end(alloc, &mut disk, 100)? else {
+        return Ok((false, false));
+    };
+    let failed = add_and_crash(&mut disk, journal, &frame, Stop { call, keep }).is_err();
     let left = reads_as(&mut disk, wanted);
     let added = match first_payload(alloc, &mut disk)? {
         Some((at, payload)) => at == 0 && payload.items() == [0xaa].as_slice(),
@@ -111,67 +213,115 @@ fn stopped(alloc: Global, call: u8, keep: Keep, wanted: &[u8]) -> Result<(bool, 
 fn a_stop_leaves_the_list_before_or_after(rt: HostRuntime) -> Result<(), Fail> {
     let framed = b"\0\0\0\0\x01\xaa\0".as_slice();
     let opened = b"\x01\0\0\0\x01\xaa\0".as_slice();
-    let torn = b"\0\x01\x01\x01\x01\x01\x01".as_slice();
-    let table = [
-        (1, Keep::All, framed, false),
-        (1, Keep::Nothing, b"\0".as_slice(), false),
-        (1, Keep::Byte(0), b"\0\0\0\0\0\0\0".as_slice(), false),
-        (1, Keep::Byte(1), torn, false),
+    let frame_stopped = [
+        (Keep::All, framed, false),
+        (Keep::Nothing, b"\0".as_slice(), false),
+        (Keep::Byte(0), b"\0\0\0\0\0\0\0".as_slice(), false),
         (
-            1,
+            Keep::Byte(1),
+            b"\0\x01\x01\x01\x01\x01\x01".as_slice(),
+            false,
+        ),
+        (
             Keep::Byte(255),
             b"\0\xff\xff\xff\xff\xff\xff".as_slice(),
-            false,
-        ),
-        (2, Keep::All, framed, false),
-        (2, Keep::Nothing, b"\0".as_slice(), false),
-        (2, Keep::Byte(0), b"\0\0\0\0\0\0\0".as_slice(), false),
-        (2, Keep::Byte(1), torn, false),
-        (
-            2,
-            Keep::Byte(255),
-            b"\0\xff\xff\xff\xff\xff\xff".as_slice(),
-            false,
-        ),
-        (3, Keep::All, opened, true),
-        (3, Keep::Nothing, framed, false),
-        (3, Keep::Byte(0), framed, false),
-        (3, Keep::Byte(1), opened, true),
-        (
-            3,
-            Keep::Byte(255),
-            b"\xff\0\0\0\x01\xaa\0".as_slice(),
-            false,
-        ),
-        (4, Keep::All, opened, true),
-        (4, Keep::Nothing, framed, false),
-        (4, Keep::Byte(0), framed, false),
-        (4, Keep::Byte(1), opened, true),
-        (
-            4,
-            Keep::Byte(255),
-            b"\xff\0\0\0\x01\xaa\0".as_slice(),
             false,
         ),
     ];
-    for (call, keep, left, added) in table {
-        if call <= 4 {
+    let gate_stopped = [
+        (Keep::All, opened, true),
+        (Keep::Nothing, framed, false),
+        (Keep::Byte(0), framed, false),
+        (Keep::Byte(1), opened, true),
+        (Keep::Byte(255), b"\xff\0\0\0\x01\xaa\0".as_slice(), false),
+    ];
+    for call in 1..5u8 {
+        let table = if call <= 2 {
+            frame_stopped
+        } else {
+            gate_stopped
+        };
+        for (keep, left, added) in table {
             assert_eq!(rt; stopped(rt.alloc(), call, keep, left)?, (true, added));
         }
     }
     Ok(())
 }
 
+/// A disk that says that it has eight bytes, gives the first six of them, and tells nothing.
+#[derive(Drop)]
+struct ShortDisk;
+
+impl Disk for ShortDisk {
+    ghost state = { λ _. None };
+
+    ghost past = { λ _. None };
+
+    ghost outlook = { λ _. None };
+
+    ghost keeps = { λ _. None };
+
+    ghost faults = { λ _. 0 };
+
+    fn len(&mut self) -> Result<u64, Failed> {
+        Ok(8)
+    }
+
+    fn read_at(&mut self, at: u64, into: &mut [u8]) -> Result<usize, Failed> {
+        let bytes = b"\x01\0\0\0\x02\xaa".as_slice();
+        let rest = bytes.split_at(bytes.len().min(at as usize)).1;
+        let count = rest.len().min(into.len());
+        into[..count].copy_from_slice(&rest[..count]);
+        Ok(count)
+    }
+
+    fn write_at(&mut self, _at: u64, _from: &[u8]) -> Result<(), Failed> {
+        Ok(())
+    }
+
+    fn sync(&mut self) -> Result<(), Failed> {
+        Ok(())
+    }
+}
+
 #[test]
-fn journals_are_read_as_they_stand(rt: HostRuntime) -> Result<(), Fail> {
+fn an_open_gate_that_leads_nowhere_is_damage(rt: HostRuntime) -> Result<(), Fail> {
     let alloc = rt.alloc();
-    let mut cut = memory(alloc, b"\x01\0\0\0")?;
-    assert_eq!(rt;
-        first_payload(alloc, &mut cut).err(),
-        Some(JournalFault::Damaged { at: 0 })
-    );
+    let damaged = Some(JournalFault::Damaged { at: 0 });
+    // No whole length, a length of 20,000,001, and no next gate.
+    for image in [
+        b"\x01\0\0\0".as_slice(),
+        b"\x01\x01\x31\x2d\x01\xaa\0".as_slice(),
+        b"\x01\0\0\0\x01\xaa".as_slice(),
+    ] {
+        let mut disk = memory(alloc, image)?;
+        assert_eq!(rt; first_payload(alloc, &mut disk).err(), damaged);
+    }
+    assert_eq!(rt; first_payload(alloc, &mut ShortDisk).err(), damaged);
+    Ok(())
+}
+
+#[test]
+fn one_byte_is_no_payload(rt: HostRuntime) -> Result<(), Fail> {
+    let alloc = rt.alloc();
     let mut gate = memory(alloc, b"\x01")?;
     assert!(rt; first_payload(alloc, &mut gate)?.is_none() && reads_as(&mut gate, b"\0"));
+    Ok(())
+}
+
+#[test]
+fn faults_have_their_texts(rt: HostRuntime) -> Result<(), Fail> {
+    for (fault, text) in [
+        (JournalFault::DiskFailed, "the disk failed"),
+        (
+            JournalFault::Damaged { at: 17 },
+            "the journal is damaged at byte 17",
+        ),
+        (JournalFault::JournalFull, "the journal is full"),
+        (JournalFault::NoMemory, "no memory"),
+    ] {
+        assert_eq!(rt; format!(in rt.alloc(); "{fault}")?.as_str(), text);
+    }
     Ok(())
 }
 
