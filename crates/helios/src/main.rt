@@ -2,6 +2,11 @@
 //! standard output to `helios_top::run`, and ends with the status that comes out.
 #![tactic(auto)]
 
+ghost use Rattle.std.specs.Prelude.{◌≡◌, ◌≢◌};
+ghost use Rattle.std.specs.IoError.{error_kind};
+ghost use Rattle.std.specs.declared.io.ErrorKind.TheVariants.{InvalidData};
+ghost use Rattle.helios.specs.declared.NoWords.TheVariants.{NotText, NoMemory};
+
 use helios_top::run;
 use outside_io::{StdSink, StdSource};
 use std::alloc::AllocError;
@@ -19,7 +24,10 @@ enum NoWords {
 }
 
 impl NoWords {
-    fn status(self) -> u8 {
+    fn status(self) -> u8
+        ensures text { self ≡ NoWords.NotText → result ≡ 1 }
+        ensures memory { self ≡ NoWords.NoMemory → result ≡ 4 }
+    {
         match self {
             NoWords::NotText => 1,
             NoWords::NoMemory => 4,
@@ -28,6 +36,8 @@ impl NoWords {
 }
 
 impl From<io::Error> for NoWords {
+    ghost from_gives = { λ error none. (error_kind error ≡ InvalidData → none ≡ NotText) × (error_kind error ≢ InvalidData → none ≡ NoMemory) };
+
     fn from(error: io::Error) -> NoWords {
         match error.kind() {
             io::ErrorKind::InvalidData => NoWords::NotText,
@@ -37,6 +47,8 @@ impl From<io::Error> for NoWords {
 }
 
 impl From<AllocError> for NoWords {
+    ghost from_gives = { λ _ none. none ≡ NoMemory };
+
     fn from(_refused: AllocError) -> NoWords {
         NoWords::NoMemory
     }

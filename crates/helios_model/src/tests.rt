@@ -1,4 +1,5 @@
 // Each copy is equal to what it was made from, with ample memory; conflicts are the same from both sides.
+use crate::batches::Replies;
 use crate::conflicts::conflicts;
 use crate::ids::{SiteId, Time, TxnId, Version};
 use crate::item_lists::{Keys, Puts, Reads, Writes};
@@ -7,6 +8,7 @@ use crate::keys::{Key, Val};
 use crate::names::{Name, Names};
 use crate::numbers::{Bytes, Places, Times};
 use crate::records::TxnIds;
+use crate::reply::Reply;
 use crate::transaction::{Ask, Prepare};
 use std::alloc::{AllocError, Global};
 use std::test::Fail;
@@ -117,6 +119,16 @@ fn requests_are_copied(rt: HostRuntime) -> Result<(), Fail> {
     let ask = Ask::new(reads, puts).ok_or("a request")?.copy()?;
     assert_eq!(rt; ask.reads().items().len(), 1);
     assert_eq!(rt; ask.puts().items().len(), 1);
+    Ok(())
+}
+
+#[test]
+fn replies_are_copied(rt: HostRuntime) -> Result<(), Fail> {
+    let key = key(rt.alloc(), "x")?;
+    let current = Version::Of(id(3));
+    let stale = Reply::Overwritten { key, current };
+    let replies = Replies::new(vec![in rt.alloc(); Reply::Prepared(id(7)), stale]?);
+    assert_eq!(rt; replies.copy()?.items(), replies.items());
     Ok(())
 }
 

@@ -15,6 +15,10 @@ const UNBUILT: &str = "refused unbuilt\n";
 const EMPTY: &str =
     r#"{"plan":{"latency":[0],"names":["A"],"offset":[[0]],"pair":[0],"rtt":[[0]],"total":0,"version":1},"steps":[]}"#;
 
+/// An optimal plan of three sites.
+const THREE_SITES: &str =
+    r#"{"latency":[10000,50000,30000],"names":["A","B","C"],"offset":[[0,-20000,-10000],[20000,0,10000],[10000,-10000,0]],"pair":[1,2,0],"rtt":[[0,30000,20000],[30000,0,40000],[20000,40000,0]],"total":90000,"version":1}"#;
+
 /// What a run over memory came to: the status, what was written, and how many bytes were not read.
 #[derive(Drop)]
 struct Outcome {
@@ -51,7 +55,7 @@ fn run_over(
 
 #[test]
 fn answers_each_input(rt: HostRuntime) -> Result<(), Fail> {
-    let cases: [(&[&str], &str, u8, &str); 17] = [
+    let cases: [(&[&str], &str, u8, &str); 18] = [
         (&["replay"], EMPTY, 0, REPORT),
         (&["replay"], "", 5, UNBUILT),
         (&["replay"], "[", 5, UNBUILT),
@@ -59,11 +63,12 @@ fn answers_each_input(rt: HostRuntime) -> Result<(), Fail> {
         (&["replay", "x"], EMPTY, 1, USAGE),
         (&["Replay"], EMPTY, 1, USAGE),
         (&["--help"], EMPTY, 1, USAGE),
+        (&["check"], THREE_SITES, 0, "optimal 90000\n"),
         (
             &["check"],
-            r#"{"latency":[10000,50000,30000],"names":["A","B","C"],"offset":[[0,-20000,-10000],[20000,0,10000],[10000,-10000,0]],"pair":[1,2,0],"rtt":[[0,30000,20000],[30000,0,40000],[20000,40000,0]],"total":90000,"version":1}"#,
-            0,
-            "optimal 90000\n",
+            r#"{"latency":[10000,50000,29999],"names":["A","B","C"],"offset":[[0,-20000,-10000],[20000,0,10000],[9999,-10001,0]],"pair":[1,2,0],"rtt":[[0,30000,20000],[30000,0,40000],[20000,40000,0]],"total":89999,"version":1}"#,
+            9,
+            "short 0 2\n",
         ),
         (
             &["check"],
@@ -173,13 +178,37 @@ fn plans_each_matrix(rt: HostRuntime) -> Result<(), Fail> {
 }
 
 #[test]
-fn plans_one_site(rt: HostRuntime) -> Result<(), Fail> {
-    let input = br#"{"names":["A"],"rtt":[[0]]}"#.to_vec(rt.alloc())?;
-    let got = run_over(rt.alloc(), &["plan"], input, 1, &[], &[])?;
-    let text =
-        "{\"latency\":[0],\"names\":[\"A\"],\"offset\":[[0]],\"pair\":[0],\"rtt\":[[0]],\"total\":0,\"version\":1}\n";
-    assert_eq!(rt; got.status, 0);
-    assert_eq!(rt; got.written.as_slice(), text.as_bytes());
+fn prints_each_plan(rt: HostRuntime) -> Result<(), Fail> {
+    // Which optimal pairing is printed is free: what stands here is the one that the program finds.
+    let cases = [
+        (
+            r#"{"names":["A"],"rtt":[[0]]}"#,
+            0,
+            r#"{"latency":[0],"names":["A"],"offset":[[0]],"pair":[0],"rtt":[[0]],"total":0,"version":1}"#,
+        ),
+        (
+            r#"{"names":["A","B","C"],"rtt":[[0,100,100],[100,0,0],[100,0,0]]}"#,
+            0,
+            r#"{"latency":[200,0,0],"names":["A","B","C"],"offset":[[0,100,100],[-100,0,0],[-100,0,0]],"pair":[1,0,2],"rtt":[[0,100,100],[100,0,0],[100,0,0]],"total":200,"version":1}"#,
+        ),
+        (
+            r#"{"names":["A","B","C"],"rtt":[[0,30000,20000],[30000,0,40000],[20000,40000,0]]}"#,
+            0,
+            THREE_SITES,
+        ),
+        (
+            r#"{"names":["A","B"],"rtt":[[0,30],[31,0]]}"#,
+            5,
+            "refused not-symmetric 0 1",
+        ),
+    ];
+    for (matrix, status, line) in cases {
+        let input = matrix.as_bytes().to_vec(rt.alloc())?;
+        let got = run_over(rt.alloc(), &["plan"], input, 1, &[], &[])?;
+        let text = format!(in rt.alloc(); "{line}\n")?;
+        assert_eq!(rt; got.status, status, "{matrix}");
+        assert_eq!(rt; got.written.as_slice(), text.as_bytes(), "{matrix}");
+    }
     Ok(())
 }
 
@@ -325,20 +354,22 @@ fn takes_each_form_and_no_other(rt: HostRuntime) -> Result<(), Fail> {
 
 #[test]
 fn ends_by_each_fault(rt: HostRuntime) -> Result<(), Fail> {
-    let cases: [(&[&str], &[u64], &[u64], u8, &str); 7] = [
-        (&["replay"], &[0], &[], 2, "fault read\n"),
-        (&["replay"], &[1], &[], 2, "fault read\n"),
-        (&["replay"], &[], &[0], 3, ""),
-        (&["replay"], &[], &[2], 3, "site 0 tim"),
-        (&["replay"], &[0], &[1], 3, "fault"),
-        (&[], &[], &[0], 3, ""),
-        (&[], &[0], &[], 1, USAGE),
+    let cases: [(&[&str], &str, &[u64], &[u64], u8, &str); 9] = [
+        (&["replay"], EMPTY, &[0], &[], 2, "fault read\n"),
+        (&["replay"], EMPTY, &[1], &[], 2, "fault read\n"),
+        (&["replay"], EMPTY, &[], &[0], 3, ""),
+        (&["replay"], EMPTY, &[], &[2], 3, "site 0 tim"),
+        (&["replay"], EMPTY, &[0], &[1], 3, "fault"),
+        (&["check"], THREE_SITES, &[0], &[], 2, "fault read\n"),
+        (&["check"], THREE_SITES, &[], &[0], 3, ""),
+        (&[], EMPTY, &[], &[0], 3, ""),
+        (&[], EMPTY, &[0], &[], 1, USAGE),
     ];
-    for (words, reads, writes, status, text) in cases {
+    for (words, input, reads, writes, status, text) in cases {
         let got = run_over(
             rt.alloc(),
             words,
-            EMPTY.as_bytes().to_vec(rt.alloc())?,
+            input.as_bytes().to_vec(rt.alloc())?,
             5,
             reads,
             writes,

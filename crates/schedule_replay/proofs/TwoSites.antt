@@ -1,9 +1,14 @@
--- The plan of two sites that the tests run on keeps the limits of a plan.
-use Rattle.std.proofs.Common.{All, ◌≡◌, ℕ, ◌<◌, ◌≤◌, ◌⊎◌, inl, inr, List, [], ◌∷◌, refl, arith}
+-- The plan of two sites that the tests run on keeps the limits of a plan, and a step of one request those of a step.
+use Rattle.std.proofs.Common.{All, ◌≡◌, ◌≢◌, ℕ, ◌+◌, ◌*◌, ◌<◌, ◌≤◌, ◌⊎◌, inl, inr, IsTrue, List, [], ◌∷◌, length, refl, arith}
 use Rattle.std.proofs.lemmas.Bool.{cases_eq}
 use Rattle.std.proofs.lemmas.List.Elements.{All-cons, All-nil}
 use Rattle.helios_model.specs.Limits.{IsName, IsNameByte, longest_trip, greatest_latency}
-use Rattle.helios_model.specs.Setting.{IsPlan, trip_at}
+use Rattle.helios_model.specs.declared.items.PutItem.{PutItem}
+use Rattle.helios_model.specs.Distinct.{all_differ}
+use Rattle.helios_model.specs.Setting.{Setting, IsAccepted, IsPlan, count_of, latency, rtt, trip_at}
+use Rattle.schedule_replay.specs.declared.reads.PlannedRead.{PlannedRead}
+use Rattle.schedule_replay.specs.declared.inputs.Planned.TheVariants.{Request}
+use Rattle.schedule_replay.specs.Replayable.{IsGiven, IsPlannedBatch, IsPlannedInput}
 
 abbrev pub two_names : List (List ℕ)
 two_names = (65 ∷ []) ∷ (66 ∷ []) ∷ []
@@ -57,4 +62,36 @@ two_sites_is_plan = record {
   planned = refl;
   bounded = All-cons (λ half_micros. half_micros ≤ greatest_latency) 0 (200 ∷ []) (omega arith)
       (All-cons (λ half_micros. half_micros ≤ greatest_latency) 200 [] (omega arith) (All-nil (λ half_micros. half_micros ≤ greatest_latency)));
+}
+
+abbrev pub two_sites : Setting
+two_sites = record { names = two_names; trips = two_trips; latencies = two_latencies }
+
+far_enough : (i j : ℕ) → (i ≡ 0) ⊎ (i ≡ 1) → (j ≡ 0) ⊎ (j ≡ 1) → i ≢ j → 2 * rtt two_sites i j ≤ latency two_sites i + latency two_sites j
+far_enough i j (inl a) (inl b) other = omega arith
+far_enough i j (inl a) (inr b) other = rw (a, b) (omega arith)
+far_enough i j (inr a) (inl b) other = rw (a, b) (omega arith)
+far_enough i j (inr a) (inr b) other = omega arith
+
+pub two_sites_is_accepted : IsAccepted two_sites
+two_sites_is_accepted = record { limits = two_sites_is_plan; reached = λ i j here there other. far_enough i j (small i here) (small j there) other }
+
+one_differs : {X : Type 0} (text : X → List ℕ) (xs : List X) → length xs ≤ 1 → IsTrue (all_differ text xs)
+one_differs text [] few = refl
+one_differs text (x ∷ []) few = refl
+one_differs text (x ∷ y ∷ ys) few = absurd (omega arith)
+
+pub one_request_is_planned : (plan : Setting) (site at : ℕ) (reads : List PlannedRead) (puts : List PutItem)
+    → site < count_of plan → length reads ≤ 1 → All (λ r. IsGiven r.version) reads → length puts ≡ 1
+    → IsPlannedBatch plan site (Request at reads puts ∷ [])
+one_request_is_planned plan site at reads puts here few given one = record {
+  here = here;
+  one = refl;
+  each = All-cons IsPlannedInput (Request at reads puts) [] (record {
+    few_reads = omega arith;
+    few_puts = omega arith;
+    reads_differ = one_differs (λ r. r.key) reads few;
+    puts_differ = one_differs (λ p. p.key) puts (omega arith);
+    given = given;
+  }) (All-nil IsPlannedInput);
 }

@@ -1,8 +1,20 @@
 // The rules of a node where more than one site stands, and at the end of a clock: what no replay of one site reaches.
+ghost use Rattle.std.specs.Prelude.{◌≡◌, ◌<◌, ◌≤◌, IfOk, All, length};
+ghost use Rattle.helios_model.specs.Setting.{IsAccepted, count_of};
+ghost use Rattle.schedule_replay.specs.Replayable.{IsGiven, IsPlannedStep, IsReplayable, IsVersionText, most_steps};
+
+use crate::input_lists::PlannedInputs;
+use crate::inputs::Planned;
 use crate::lines::push_reply;
 use crate::node::Core;
+use crate::planned::PlannedReads;
+use crate::reads::{PlannedRead, PlannedVersion};
+use crate::replay::replay;
 use crate::requests::answer;
-use helios_model::ids::{SiteId, Version};
+use crate::schedule::Schedule;
+use crate::step_lists::StepList;
+use crate::steps::Step;
+use helios_model::ids::{SiteId, Time, TxnId, Version};
 use helios_model::input::{Entry, Input};
 use helios_model::item_lists::{Puts, Reads};
 use helios_model::items::{PutItem, ReadItem};
@@ -15,8 +27,10 @@ use std::alloc::{AllocError, Global};
 use std::test::Fail;
 
 /// Two sites, 100 microseconds from each other, of which the first commits at once.
-#[tactic(auto, using(crate::proofs::TwoSites::two_sites_is_plan))]
-fn two_sites(alloc: Global) -> Result<Plan, AllocError> {
+#[tactic(auto, using(crate::proofs::TwoSites::two_sites_is_plan, crate::proofs::TwoSites::two_sites_is_accepted))]
+fn two_sites(alloc: Global) -> Result<Plan, AllocError>
+    ensures { IfOk result (λ plan. IsAccepted plan) }
+{
     let first = Name::new(String::from_str(alloc, "A")?);
     let second = Name::new(String::from_str(alloc, "B")?);
     let names = Names::new(vec![in alloc; first, second]?);
@@ -25,18 +39,33 @@ fn two_sites(alloc: Global) -> Result<Plan, AllocError> {
     Ok(Plan::new(names, rtt, latency))
 }
 
-fn core_of(alloc: Global, site: u8) -> Result<Core, Fail> {
-    let plan = two_sites(alloc)?;
-    let site = SiteId::new(site).ok_or("a site")?;
-    if site.number() < plan.count() {
-        Ok(Core::new(alloc, plan, site)?)
+fn site_of(plan: &Plan, number: u8) -> Result<SiteId, Fail>
+    ensures { IfOk result (λ site. site < count_of plan.now) }
+{
+    let site = SiteId::new(number).ok_or("a site")?;
+    if number < plan.count() {
+        Ok(site)
     } else {
         Err(Fail::from("a site of the plan"))
     }
 }
 
+fn core_of(alloc: Global, site: u8) -> Result<Core, Fail> {
+    let plan = two_sites(alloc)?;
+    let site = site_of(&plan, site)?;
+    Ok(Core::new(alloc, plan, site)?)
+}
+
 fn key(alloc: Global, text: &str) -> Result<Key, Fail> {
     Ok(Key::new(Bytes::new(text.as_bytes().to_vec(alloc)?)).ok_or("a key")?)
+}
+
+fn one_put(alloc: Global, put: &str) -> Result<Puts, Fail>
+    ensures { IfOk result (λ puts. length puts ≡ 1) }
+{
+    let key = key(alloc, put)?;
+    let value = Val::new(Bytes::new(b"v".to_vec(alloc)?)).ok_or("a value")?;
+    Ok(Puts::new(vec![in alloc; PutItem { key, value }]?))
 }
 
 /// A request that reads this key, if any, as it first was, and writes that key.
@@ -49,14 +78,8 @@ fn request(alloc: Global, reading: u64, read: &str, put: &str) -> Result<Entry, 
             version: Version::Initial,
         })?;
     }
-    let value = Val::new(Bytes::new(b"v".to_vec(alloc)?)).ok_or("a value")?;
-    let puts = vec![in alloc;
-        PutItem {
-            key: key(alloc, put)?,
-            value
-        },
-    ]?;
-    let ask = Ask::new(Reads::new(items), Puts::new(puts)).ok_or("a request")?;
+    let puts = one_put(alloc, put)?;
+    let ask = Ask::new(Reads::new(items), puts).ok_or("a request")?;
     Ok(Entry {
         reading,
         input: Input::Request(ask),
@@ -138,5 +161,83 @@ fn a_great_reading_is_clamped(rt: HostRuntime) -> Result<(), Fail> {
         text.as_slice(),
         b"prepared 1@4611686018427125760".as_slice()
     );
+    Ok(())
+}
+
+/// The version that site 1 wrote at this time, or none yet at time 0.
+fn version_of(time: u32) -> Version
+    ensures { IsVersionText result }
+{
+    if time == 0 {
+        return Version::Initial;
+    }
+    Version::Of(TxnId {
+        site: SiteId::of(1),
+        time: Time::of(u64::from(time)),
+    })
+}
+
+fn planned_reads(alloc: Global, read: &str, time: u32) -> Result<PlannedReads, Fail>
+    ensures few { IfOk result (λ reads. length reads ≤ 1) }
+    ensures given { IfOk result (All (λ r. IsGiven r.version)) }
+{
+    if read.is_empty() {
+        return Ok(PlannedReads::new(Vec::new(alloc)));
+    }
+    let key = key(alloc, read)?;
+    let version = PlannedVersion::At(version_of(time));
+    Ok(PlannedReads::new(vec![in alloc; PlannedRead { key, version }]?))
+}
+
+/// A site, a reading, the key that is read, if any, with the time of its version, and the key that is written.
+type Row<'a> = (u8, u64, &'a str, u32, &'a str);
+
+fn step(alloc: Global, plan: &Plan, row: Row) -> Result<Step, Fail>
+    ensures { IfOk result (IsPlannedStep plan.now) }
+{
+    let (site, at, read, time, put) = row;
+    let site = site_of(plan, site)?;
+    let reads = planned_reads(alloc, read, time)?;
+    let puts = one_put(alloc, put)?;
+    let input = Planned::Request { at, reads, puts };
+    let inputs = PlannedInputs::new(vec![in alloc; input]?);
+    Ok(Step::Batch { site, inputs })
+}
+
+fn steps(alloc: Global, plan: &Plan, rows: &[Row]) -> Result<Vec<Step>, Fail>
+    ensures count { IfOk result (λ steps. length steps.items ≡ length rows.now) }
+    ensures each { IfOk result (λ steps. All (IsPlannedStep plan.now) steps.items) }
+{
+    let mut steps = Vec::new(alloc);
+    for row in rows {
+        steps.push(step(alloc, plan, *row)?)?;
+    }
+    Ok(steps)
+}
+
+fn schedule(alloc: Global, rows: &[Row]) -> Result<Schedule, Fail>
+    requires { length rows.now ≤ most_steps }
+    ensures { IfOk result (λ schedule. IsReplayable schedule.plan schedule.steps) }
+{
+    let plan = two_sites(alloc)?;
+    let steps = StepList::new(steps(alloc, &plan, rows)?);
+    Ok(Schedule { plan, steps })
+}
+
+#[test]
+fn two_sites_are_replayed(rt: HostRuntime) -> Result<(), Fail> {
+    let rows = [
+        (0, 100, "", 0, "x"),
+        (1, 10, "", 0, "x"),
+        (1, 10, "x", 0, "y"),
+        (1, 10, "y", 10, "z"),
+    ];
+    let schedule = schedule(rt.alloc(), &rows)?;
+    let report = replay(rt.alloc(), &schedule)?;
+    let text =
+        "0 0 committed 0@100\n1 1 prepared 1@10\n2 1 conflict 1@10\n3 1 overwritten y initial\ncommit 0@100\nsite 0 time 101 log 2 pending 0\nsite 1 time 10 log 1 pending 1\n";
+    assert_eq!(rt; report.text.items(), text.as_bytes());
+    assert_eq!(rt; report.refusals, 2);
+    assert_eq!(rt; report.commits.items().len(), 1);
     Ok(())
 }
