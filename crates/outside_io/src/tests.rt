@@ -1,8 +1,8 @@
 use super::*;
 use crate::system::{read_once, write_once};
 use std::alloc::{AllocError, Allocator, Global};
-use std::fmt::Display;
 use std::cell::Cell;
+use std::fmt::Display;
 use std::io;
 use std::io::{BufRead, ErrorKind, Lines, Read};
 use std::test::Fail;
