@@ -10,7 +10,6 @@ use disk_store::{Disk, FileDisk, Keep, MemDisk, RecordDisk, Stop};
 use helios_model::numbers::Bytes;
 use outside_io::Failed;
 use std::alloc::{AllocError, Global};
-use std::marker::Model;
 use std::test::Fail;
 
 /// The payload `aa`.
