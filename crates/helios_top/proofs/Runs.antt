@@ -538,11 +538,11 @@ reads_stood taken taken' writes writes' reads reads' status ending wrote stands 
     let other = unfailed_other status unfailed in
     elim wrote [
       | inl own ↦ (elim (wrote_status taken taken' writes writes' status ending own) [
-        | inl due ↦ stands (λ two. other.0 (due ∙ two))
-        | inr three ↦ absurd (other.1.0 three)
+        | inl own_status ↦ stands (λ two. other.0 (own_status ∙ two))
+        | inr three ↦ absurd (other.1 three)
       ])
       | inr none ↦ (elim (wrote_status taken taken' writes writes' status NoMemory none) [
-        | inl four ↦ absurd (other.1.1 four)
-        | inr three ↦ absurd (other.1.0 three)
+        | inl four ↦ absurd (other.2 four)
+        | inr three ↦ absurd (other.1 three)
       ])
     ]
