@@ -328,7 +328,8 @@ fn faults_have_their_texts(rt: HostRuntime) -> Result<(), Fail> {
 fn a_file_keeps_its_payload(rt: HostRuntime) -> Result<(), Fail> {
     let alloc = rt.alloc();
     let mut disk = FileDisk::over(&rt, "helios.journal")?;
-    add_first(alloc, &mut disk, 100, &frame_aa(alloc)?)?;
+    let frame = frame_aa(alloc)?;
+    assert_eq!(rt; add_first(alloc, &mut disk, 100, &frame), Ok(true));
     let mut again = FileDisk::over(&rt, "helios.journal")?;
     assert!(rt; first_payload(alloc, &mut again)?.is_some());
     Ok(())
