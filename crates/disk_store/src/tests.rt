@@ -32,6 +32,7 @@ fn a_file_is_written_synced_and_read_again(rt: HostRuntime) -> Result<(), Fail> 
     disk.sync()?;
     let mut again = FileDisk::over(&rt, "helios.journal")?;
     assert!(rt; reads_as(&mut again, b"waitd")?);
+    assert_eq!(rt; again.len(), Ok(5));
     let mut part = [0u8; 3];
     assert_eq!(rt; again.read_at(3, &mut part)?, 2);
     assert!(rt; FileDisk::over(&rt, "no/such/folder").is_err());
