@@ -3,10 +3,10 @@ use crate::file::read_all_at;
 use helios_model::ids::SiteId;
 use std::alloc::Global;
 use std::cell::Cell;
-use std::io;
 use std::io::ErrorKind;
 use std::os::unix::fs::FileExt;
 use std::test::Fail;
+use std::{fs, io};
 
 fn disk_of(alloc: Global, bytes: &[u8]) -> Result<MemDisk, Fail> {
     let held = bytes.to_vec(alloc)?;
@@ -25,6 +25,7 @@ fn reads_as<D: Disk>(disk: &mut D, wanted: &[u8]) -> Result<bool, Fail> {
 
 #[test]
 fn a_file_is_written_synced_and_read_again(rt: HostRuntime) -> Result<(), Fail> {
+    let _earlier = fs::remove_file(&rt, "helios.journal");
     let mut disk = FileDisk::over(&rt, "helios.journal")?;
     assert_eq!(rt; disk.len()?, 0);
     disk.write_at(0, b"wound")?;

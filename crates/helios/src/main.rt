@@ -2,17 +2,21 @@
 //! standard output to `helios_top::run`, and ends with the status that comes out.
 #![tactic(auto)]
 
-ghost use Rattle.std.specs.Prelude.{◌≡◌, ◌≢◌};
-ghost use Rattle.std.specs.IoError.{error_kind};
-ghost use Rattle.std.specs.declared.io.ErrorKind.TheVariants.{InvalidData};
+ghost use Rattle.std.specs.Prelude.{◌≡◌, IfErr, IfOk, IsErrAnd, MatchResult, drop};
+ghost use Rattle.std.specs.Vec.Iter.{into_iter_items};
+ghost use Rattle.helios_top.specs.Run.{IsStatus};
+ghost use Rattle.helios.specs.Words.{IsReason};
 ghost use Rattle.helios.specs.declared.NoWords.TheVariants.{NotText, NoMemory};
 
 use helios_top::run;
 use outside_io::{StdSink, StdSource};
-use std::alloc::AllocError;
+use std::alloc::{AllocError, Global};
 use std::process::ExitCode;
 use std::rt::Env;
 use std::{env, io};
+
+#[cfg(test)]
+mod tests;
 
 /// Why the words could not be had. The program then ends without a line.
 #[derive(Clone, Copy, Debug, PartialEq, Eq)]
@@ -36,7 +40,7 @@ impl NoWords {
 }
 
 impl From<io::Error> for NoWords {
-    ghost from_gives = { λ error none. (error_kind error ≡ InvalidData → none ≡ NotText) × (error_kind error ≢ InvalidData → none ≡ NoMemory) };
+    ghost from_gives = { λ error none. IsReason error none };
 
     fn from(error: io::Error) -> NoWords {
         match error.kind() {
@@ -54,20 +58,36 @@ impl From<AllocError> for NoWords {
     }
 }
 
-/// The words of the command line behind the program's own name.
-fn words(rt: &(impl Env + AllocGlobal)) -> Result<Vec<String>, NoWords> {
-    let words = env::args(rt)?.skip(1).collect(rt.alloc())?;
-    Ok(words)
+/// The words of a command line behind the first, which is the program's own name.
+fn words_of(alloc: Global, all: io::Result<env::Args>) -> Result<Vec<String>, NoWords>
+    ensures words { IfOk all (λ args. MatchResult result
+        (λ words. words.items ≡ drop 1 (into_iter_items args))
+        (λ none. none ≡ NoMemory)) }
+    ensures refused { IfErr all (λ error. IsErrAnd result (IsReason error)) }
+{
+    Ok(behind_first(alloc, all?)?)
+}
+
+fn behind_first(alloc: Global, all: env::Args) -> Result<Vec<String>, AllocError>
+    ensures { IfOk result (λ words. words.items ≡ drop 1 (into_iter_items all)) }
+{
+    all.skip(1).collect(alloc)
+}
+
+/// Runs over the words and the standard streams of a runtime, and gives the exit status.
+fn run_over(rt: &(impl Env + Input + Print + AllocGlobal)) -> u8
+    ensures { IsStatus result }
+{
+    match words_of(rt.alloc(), env::args(rt)) {
+        Ok(words) => {
+            let mut input = StdSource::over(rt);
+            let mut output = StdSink::over(rt);
+            run(rt.alloc(), &words, &mut input, &mut output).0
+        }
+        Err(none) => none.status(),
+    }
 }
 
 fn main(rt: HostRuntime) -> ExitCode {
-    match words(&rt) {
-        Ok(words) => {
-            let mut input = StdSource::over(&rt);
-            let mut output = StdSink::over(&rt);
-            let status = run(rt.alloc(), &words, &mut input, &mut output);
-            ExitCode::from(status.0)
-        }
-        Err(none) => ExitCode::from(none.status()),
-    }
+    ExitCode::from(run_over(&rt))
 }
