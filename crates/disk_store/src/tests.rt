@@ -1,10 +1,14 @@
+ghost use Rattle.std.specs.Prelude.{◌≤◌, IsErr, IfOk};
+
 use super::*;
-use crate::file::read_all_at;
 use helios_model::ids::SiteId;
-use std::alloc::Global;
+use outside_io::Failed;
+use std::alloc::{Allocator, Global};
 use std::cell::Cell;
-use std::io::ErrorKind;
+use std::fs::{Metadata, OpenFile, OpenOptions};
+use std::io::{ErrorKind, Read, Seek, SeekFrom, Write};
 use std::os::unix::fs::FileExt;
+use std::rt::Files;
 use std::test::Fail;
 use std::{fs, io};
 
@@ -40,40 +44,178 @@ fn a_file_is_written_synced_and_read_again(rt: HostRuntime) -> Result<(), Fail> 
     Ok(())
 }
 
-/// A file that gives at most two bytes a read, and at which a signal comes before the first.
+/// A file of five bytes that moves at most two of them a call, with a signal before every other
+/// call. Where it is broken, each call fails but a sync of the data alone.
 #[derive(Drop)]
-struct SlowFile {
+struct MadeUpFile {
+    is_broken: bool,
+    bytes: Cell<[u8; 5]>,
     signalled: Cell<bool>,
 }
 
-impl FileExt for SlowFile {
-    fn read_at(&self, buf: &mut [u8], offset: u64) -> io::Result<usize> {
-        if !self.signalled.replace(true) {
-            return Err(ErrorKind::Interrupted.into());
+impl MadeUpFile {
+    /// How many of so many bytes the next call moves.
+    fn next_count(&self, most: usize) -> io::Result<usize>
+        ensures { IfOk result (λ count. count ≤ most) }
+    {
+        if self.is_broken {
+            return broken();
         }
-        let bytes = b"waitd".as_slice();
+        let came = self.signalled.get();
+        self.signalled.set(!came);
+        if came {
+            Ok(most.min(2))
+        } else {
+            Err(ErrorKind::Interrupted.into())
+        }
+    }
+}
+
+fn broken<T>() -> io::Result<T>
+    ensures { IsErr result }
+{
+    Err(ErrorKind::StorageFull.into())
+}
+
+impl FileExt for MadeUpFile {
+    fn read_at(&self, buf: &mut [u8], offset: u64) -> io::Result<usize> {
+        let bytes = self.bytes.get();
         let rest = bytes.split_at(bytes.len().min(offset as usize)).1;
-        let count = rest.len().min(buf.len()).min(2);
+        let count = self.next_count(rest.len().min(buf.len()))?;
         buf[..count].copy_from_slice(&rest[..count]);
         Ok(count)
     }
 
-    fn write_at(&self, buf: &[u8], _offset: u64) -> io::Result<usize> {
-        Ok(buf.len())
+    fn write_at(&self, buf: &[u8], offset: u64) -> io::Result<usize> {
+        let mut bytes = self.bytes.get();
+        let start = bytes.len().min(offset as usize);
+        let rest = &mut bytes[start..];
+        let count = self.next_count(rest.len().min(buf.len()))?;
+        rest[..count].copy_from_slice(&buf[..count]);
+        self.bytes.set(bytes);
+        Ok(count)
+    }
+}
+
+impl Read for MadeUpFile {
+    fn read(&mut self, _buf: &mut [u8]) -> io::Result<usize> {
+        broken()
+    }
+}
+
+impl Write for MadeUpFile {
+    fn write(&mut self, _buf: &[u8]) -> io::Result<usize> {
+        broken()
+    }
+
+    fn flush(&mut self) -> io::Result<()> {
+        broken()
+    }
+}
+
+impl Seek for MadeUpFile {
+    fn seek(&mut self, _to: SeekFrom) -> io::Result<u64> {
+        broken()
+    }
+}
+
+impl OpenFile for MadeUpFile {
+    fn metadata(&self) -> io::Result<Metadata> {
+        broken()
+    }
+
+    fn set_len(&self, _size: u64) -> io::Result<()> {
+        broken()
+    }
+
+    fn sync_all(&self) -> io::Result<()> {
+        broken()
+    }
+
+    fn sync_data(&self) -> io::Result<()> {
+        Ok(())
+    }
+}
+
+/// A file system of one such file.
+#[derive(Drop)]
+struct MadeUpFiles {
+    is_broken: bool,
+}
+
+impl Files for MadeUpFiles {
+    type File = MadeUpFile;
+
+    type Dir = MadeUpFile;
+
+    fn open_file(&self, _how: &OpenOptions, _path: &str) -> io::Result<MadeUpFile> {
+        Ok(MadeUpFile {
+            is_broken: self.is_broken,
+            bytes: Cell::new(*b"right"),
+            signalled: Cell::new(false),
+        })
+    }
+
+    fn open_dir(&self, _path: &str) -> io::Result<MadeUpFile> {
+        broken()
+    }
+
+    fn metadata(&self, _path: &str) -> io::Result<Metadata> {
+        broken()
+    }
+
+    fn symlink_metadata(&self, _path: &str) -> io::Result<Metadata> {
+        broken()
+    }
+
+    fn copy(&self, _from: &str, _to: &str) -> io::Result<u64> {
+        broken()
+    }
+
+    fn rename(&self, _from: &str, _to: &str) -> io::Result<()> {
+        broken()
+    }
+
+    fn remove_file(&self, _path: &str) -> io::Result<()> {
+        broken()
+    }
+
+    fn create_dir(&self, _path: &str) -> io::Result<()> {
+        broken()
+    }
+
+    fn remove_dir(&self, _path: &str) -> io::Result<()> {
+        broken()
+    }
+
+    fn remove_dir_all<B: Allocator>(&self, _alloc: B, _path: &str) -> io::Result<()> {
+        broken()
     }
 }
 
 #[test]
-fn a_file_is_read_to_its_end_in_pieces(rt: HostRuntime) {
-    let file = SlowFile {
-        signalled: Cell::new(false),
-    };
+fn a_file_is_read_and_written_in_pieces(rt: HostRuntime) -> Result<(), Fail> {
+    let files = MadeUpFiles { is_broken: false };
+    let mut disk = FileDisk::over(&files, "helios.journal")?;
+    disk.write_at(1, b"oas")?;
     let mut buffer = [0u8; 8];
-    assert_eq!(rt; read_all_at(&file, 1, &mut buffer), Some(4));
-    assert!(rt; &buffer[..4] == b"aitd".as_slice());
+    assert_eq!(rt; disk.read_at(1, &mut buffer), Ok(4));
+    assert!(rt; &buffer[..4] == b"oast".as_slice());
     let mut part = [0u8; 3];
-    assert_eq!(rt; read_all_at(&file, 0, &mut part), Some(3));
-    assert!(rt; part == *b"wai");
+    assert_eq!(rt; disk.read_at(0, &mut part), Ok(3));
+    assert!(rt; part == *b"roa");
+    Ok(())
+}
+
+#[test]
+fn each_call_of_a_file_that_fails_is_told(rt: HostRuntime) -> Result<(), Fail> {
+    let files = MadeUpFiles { is_broken: true };
+    let mut disk = FileDisk::over(&files, "helios.journal")?;
+    assert_eq!(rt; disk.len(), Err(Failed));
+    assert_eq!(rt; disk.read_at(0, &mut [0u8; 4]), Err(Failed));
+    assert_eq!(rt; disk.write_at(0, b"text"), Err(Failed));
+    assert_eq!(rt; disk.sync(), Err(Failed));
+    Ok(())
 }
 
 #[test]

@@ -2,9 +2,10 @@
 //! standard output to `helios_top::run`, and ends with the status that comes out.
 #![tactic(auto)]
 
-ghost use Rattle.std.specs.Prelude.{◌≡◌, IfErr, IfOk, IsErrAnd, MatchResult, drop};
+ghost use Rattle.std.specs.Prelude.{◌≡◌, ◌⊎◌, None, IfErr, IfOk, IsErrAnd, MatchResult, drop};
 ghost use Rattle.std.specs.Vec.Iter.{into_iter_items};
 ghost use Rattle.helios_top.specs.Run.{IsStatus};
+ghost use Rattle.helios_top.specs.Words.{command_of, texts};
 ghost use Rattle.helios.specs.Words.{IsReason};
 ghost use Rattle.helios.specs.declared.NoWords.TheVariants.{NotText, NoMemory};
 
@@ -74,20 +75,28 @@ fn behind_first(alloc: Global, all: env::Args) -> Result<Vec<String>, AllocError
     all.skip(1).collect(alloc)
 }
 
-/// Runs over the words and the standard streams of a runtime, and gives the exit status.
-fn run_over(rt: &(impl Env + Input + Print + AllocGlobal)) -> u8
+/// Runs these words over the standard streams, and gives the exit status.
+fn run_words(rt: &(impl Input + Print + AllocGlobal), words: &Vec<String>) -> u8
+    ensures status { IsStatus result }
+    ensures usage { result ≡ 1 → command_of (texts words.now.items) ≡ None }
+    ensures usage_only { command_of (texts words.now.items) ≡ None
+        → (result ≡ 1) ⊎ (result ≡ 3) ⊎ (result ≡ 4) }
+{
+    let mut input = StdSource::over(rt);
+    let mut output = StdSink::over(rt);
+    run(rt.alloc(), words, &mut input, &mut output).0
+}
+
+/// Runs the words of the command line, and gives the exit status.
+fn run_command_line(rt: &(impl Env + Input + Print + AllocGlobal)) -> u8
     ensures { IsStatus result }
 {
     match words_of(rt.alloc(), env::args(rt)) {
-        Ok(words) => {
-            let mut input = StdSource::over(rt);
-            let mut output = StdSink::over(rt);
-            run(rt.alloc(), &words, &mut input, &mut output).0
-        }
+        Ok(words) => run_words(rt, &words),
         Err(none) => none.status(),
     }
 }
 
 fn main(rt: HostRuntime) -> ExitCode {
-    ExitCode::from(run_over(&rt))
+    ExitCode::from(run_command_line(&rt))
 }

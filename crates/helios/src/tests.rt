@@ -103,7 +103,7 @@ fn ends_as_the_words_and_the_input_ask(rt: HostRuntime) {
             taken: Cell::new(0),
         };
         let over = (process, rt.alloc());
-        assert_eq!(rt; run_over(&over), status);
+        assert_eq!(rt; run_command_line(&over), status);
         assert_eq!(rt; over.0.taken.get(), due.len());
     }
 }

@@ -172,6 +172,77 @@ fn a_signal_ends_no_read_and_no_write(rt: HostRuntime) {
     assert_eq!(rt; write_once(&output, b"written\n"), Some(3));
 }
 
+/// A reader that fails behind its first three bytes.
+#[derive(Drop)]
+struct Breaking {
+    is_broken: bool,
+}
+
+impl Read for Breaking {
+    fn read(&mut self, buf: &mut [u8]) -> io::Result<usize> {
+        if self.is_broken {
+            return Err(ErrorKind::BrokenPipe.into());
+        }
+        self.is_broken = true;
+        Ok(buf.len().min(3))
+    }
+}
+
+impl BufRead for Breaking {
+    fn fill_buf(&mut self) -> io::Result<&[u8]> {
+        Err(ErrorKind::BrokenPipe.into())
+    }
+
+    fn consume(&mut self, _amount: usize) {}
+}
+
+/// A runtime whose input breaks, and whose output is broken.
+#[derive(Drop)]
+struct Broken;
+
+impl Input for Broken {
+    type Reader = Breaking;
+
+    fn read_line<A: Allocator + Clone>(&self, buf: &mut String<A>) -> io::Result<usize> {
+        self.reader().read_line(buf)
+    }
+
+    fn lines<A: Allocator>(&self, alloc: A) -> Lines<Breaking, A> {
+        self.reader().lines(alloc)
+    }
+
+    fn reader(&self) -> Breaking {
+        Breaking { is_broken: false }
+    }
+}
+
+impl Print for Broken {
+    fn print<D: Display + Drop>(&self, _value: D) -> io::Result<()> {
+        Ok(())
+    }
+
+    fn println<D: Display + Drop>(&self, _value: D) -> io::Result<()> {
+        Ok(())
+    }
+
+    fn write_all(&self, _bytes: &[u8]) -> io::Result<()> {
+        Ok(())
+    }
+
+    fn write_some(&self, _bytes: &[u8]) -> io::Result<usize> {
+        Err(ErrorKind::BrokenPipe.into())
+    }
+}
+
+#[test]
+fn a_stream_that_breaks_is_a_fault(rt: HostRuntime) {
+    let broken = Broken;
+    let mut source = StdSource::over(&broken);
+    assert_eq!(rt; source.read(&mut [0u8; 8]), Ok(3));
+    assert_eq!(rt; source.read(&mut [0u8; 8]), Err(Failed));
+    assert_eq!(rt; StdSink::over(&broken).write(b"text"), Err(Failed));
+}
+
 #[test]
 fn nothing_is_asked_behind_the_end(rt: HostRuntime) -> Result<(), Fail> {
     let alloc = rt.alloc();
