@@ -2,18 +2,16 @@
 //! standard output to `helios_top::run`, and ends with the status that comes out.
 #![tactic(auto)]
 
-ghost use Rattle.std.specs.Prelude.{◌≡◌, ◌⊎◌, None, IfErr, IfOk, IsErrAnd, MatchResult, drop};
+ghost use Rattle.std.specs.Prelude.{◌≡◌, IfErr, IfOk, IsErrAnd, MatchResult, drop};
 ghost use Rattle.std.specs.Vec.Iter.{into_iter_items};
 ghost use Rattle.helios_top.specs.Run.{IsStatus};
-ghost use Rattle.helios_top.specs.Words.{command_of, texts};
-ghost use Rattle.helios.specs.Words.{IsReason};
+ghost use Rattle.helios.specs.Words.{EndsByUsage, IsReason, IsWordless};
 ghost use Rattle.helios.specs.declared.NoWords.TheVariants.{NotText, NoMemory};
 
 use helios_top::run;
 use outside_io::{StdSink, StdSource};
 use std::alloc::{AllocError, Global};
 use std::process::ExitCode;
-use std::rt::Env;
 use std::{env, io};
 
 #[cfg(test)]
@@ -78,25 +76,25 @@ fn behind_first(alloc: Global, all: env::Args) -> Result<Vec<String>, AllocError
 /// Runs these words over the standard streams, and gives the exit status.
 fn run_words(rt: &(impl Input + Print + AllocGlobal), words: &Vec<String>) -> u8
     ensures status { IsStatus result }
-    ensures usage { result ≡ 1 → command_of (texts words.now.items) ≡ None }
-    ensures usage_only { command_of (texts words.now.items) ≡ None
-        → (result ≡ 1) ⊎ (result ≡ 3) ⊎ (result ≡ 4) }
+    ensures usage { EndsByUsage words.now.items result }
 {
     let mut input = StdSource::over(rt);
     let mut output = StdSink::over(rt);
     run(rt.alloc(), words, &mut input, &mut output).0
 }
 
-/// Runs the words of the command line, and gives the exit status.
-fn run_command_line(rt: &(impl Env + Input + Print + AllocGlobal)) -> u8
-    ensures { IsStatus result }
+/// Runs a command line over the standard streams, and gives the exit status.
+fn run_command_line(rt: &(impl Input + Print + AllocGlobal), all: io::Result<env::Args>) -> u8
+    ensures status { IsStatus result }
+    ensures usage { IfOk all (λ args. EndsByUsage (drop 1 (into_iter_items args)) result) }
+    ensures wordless { IfErr all (λ error. IsWordless error result) }
 {
-    match words_of(rt.alloc(), env::args(rt)) {
+    match words_of(rt.alloc(), all) {
         Ok(words) => run_words(rt, &words),
         Err(none) => none.status(),
     }
 }
 
 fn main(rt: HostRuntime) -> ExitCode {
-    ExitCode::from(run_command_line(&rt))
+    ExitCode::from(run_command_line(&rt, env::args(&rt)))
 }

@@ -4,6 +4,7 @@ use std::cell::Cell;
 use std::env::FillError;
 use std::fmt::Display;
 use std::io::{BufRead, ErrorKind, Lines};
+use std::rt::Env;
 
 /// The schedule without steps.
 const EMPTY: &[u8] =
@@ -14,13 +15,22 @@ const REPORT: &[u8] = b"site 0 time 0 log 0 pending 0\n";
 const USAGE: &[u8] = b"usage: helios COMMAND [WORDS]\n";
 
 /// A process that was started with these words, the program's name among them, and this input. Its
-/// output takes the text that is due byte by byte, and fails at any other byte.
+/// output takes the text that is due, a byte a write, and fails at each other write.
 #[derive(Drop)]
 struct Process {
     words: &'static [&'static [u8]],
     typed: &'static [u8],
     due: &'static [u8],
-    taken: Cell<usize>,
+    writes: Cell<usize>,
+}
+
+fn started(words: &'static [&'static [u8]], typed: &'static [u8], due: &'static [u8]) -> Process {
+    Process {
+        words,
+        typed,
+        due,
+        writes: Cell::new(0),
+    }
 }
 
 impl Env for Process {
@@ -74,11 +84,11 @@ impl Print for Process {
     }
 
     fn write_some(&self, bytes: &[u8]) -> io::Result<usize> {
-        let taken = self.taken.get();
-        if bytes.is_empty() || self.due.get(taken) != bytes.first() {
+        let writes = self.writes.get();
+        self.writes.set(writes.saturating_add(1));
+        if bytes.is_empty() || self.due.get(writes) != bytes.first() {
             return Err(ErrorKind::InvalidInput.into());
         }
-        self.taken.set(taken.saturating_add(1));
         Ok(1)
     }
 }
@@ -96,14 +106,17 @@ fn ends_as_the_words_and_the_input_ask(rt: HostRuntime) {
         (&[b"helios", b"replay", b"\x80"], EMPTY, 1, b""),
     ];
     for (words, typed, status, due) in cases {
-        let process = Process {
-            words,
-            typed,
-            due,
-            taken: Cell::new(0),
-        };
-        let over = (process, rt.alloc());
-        assert_eq!(rt; run_command_line(&over), status);
-        assert_eq!(rt; over.0.taken.get(), due.len());
+        let over = (started(words, typed, due), rt.alloc());
+        assert_eq!(rt; run_command_line(&over, env::args(&over)), status);
+        let failed = usize::from(status == 3);
+        assert_eq!(rt; over.0.writes.get(), due.len().saturating_add(failed));
     }
+}
+
+#[test]
+fn ends_without_memory_for_the_words(rt: HostRuntime) {
+    let over = (started(&[], EMPTY, b""), rt.alloc());
+    let refused = Err(ErrorKind::OutOfMemory.into());
+    assert_eq!(rt; run_command_line(&over, refused), 4);
+    assert_eq!(rt; over.0.writes.get(), 0);
 }
