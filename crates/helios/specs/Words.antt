@@ -8,7 +8,7 @@ use Rattle.helios_top.specs.Words.{command_of, texts}
 use Rattle.helios.specs.declared.NoWords.{NoWords}
 use Rattle.helios.specs.declared.NoWords.TheVariants.{NotText, NoMemory}
 
--- words of a kind that no text has are no text; at any other error there was no memory for them
+-- an error of the kind `InvalidData` says that a word is no text, and any other that there was no memory
 pub record IsReason (error : Error) (none : NoWords) : Type 0 where
   pub text : error_kind error ≡ InvalidData → none ≡ NotText
   pub memory : error_kind error ≢ InvalidData → none ≡ NoMemory

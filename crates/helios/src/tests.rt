@@ -95,9 +95,10 @@ impl Print for Process {
 
 #[test]
 fn ends_as_the_words_and_the_input_ask(rt: HostRuntime) {
-    let cases: [(&[&[u8]], &[u8], u8, &[u8]); 7] = [
+    let cases: [(&[&[u8]], &[u8], u8, &[u8]); 8] = [
         (&[b"helios", b"replay"], EMPTY, 0, REPORT),
         (&[b"helios", b"check"], b"", 5, b"refused not-json\n"),
+        (&[b"helios", b"plan"], EMPTY, 5, b"refused bad-shape\n"),
         (&[b"helios"], EMPTY, 1, USAGE),
         (&[b"replay"], EMPTY, 1, USAGE),
         (&[b"helios", b"replay"], EMPTY, 3, b"site 0 tim"),
