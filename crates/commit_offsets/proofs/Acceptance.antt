@@ -5,9 +5,9 @@ use Rattle.std.specs.List.{list_all, All}
 use Rattle.std.proofs.lemmas.Bool.{leb-true, eqb-true}
 use Rattle.std.proofs.lemmas.List.Elements.{All-weaker}
 use Rattle.std.proofs.lemmas.List.Sums.{AllPass-from_list_all}
-use Rattle.helios_model.specs.Distinct.{all_differ}
-use Rattle.helios_model.specs.Limits.{IsName, IsNameByte, longest_trip, greatest_latency}
-use Rattle.helios_model.specs.Setting.{IsMatrix, IsPlan, trip_at}
+use Rattle.helios_model.specs.Texts.{all_differ, IsName, IsNameByte}
+use Rattle.helios_model.specs.Limits.{longest_trip, greatest_latency}
+use Rattle.helios_model.specs.Plans.{IsMatrix, IsPlan, trip_at}
 use Rattle.json_text.specs.Names.{is_name}
 use Rattle.json_text.proofs.NameForms.{not_zero, name_says}
 use Rattle.commit_offsets.specs.Forms.{are_names, is_symmetric_row, is_symmetric, has_zero_diagonal}

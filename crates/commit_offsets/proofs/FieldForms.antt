@@ -3,7 +3,7 @@ use Rattle.std.proofs.Common.{◌≡◌, ◌≤◌, ℕ, Bool, true, false, ◌&
 use Rattle.std.specs.Prelude.{nat_le, ◌==◌, not}
 use Rattle.std.specs.List.{list_all}
 use Rattle.std.proofs.lemmas.Bool.{leb-true}
-use Rattle.helios_model.specs.Distinct.{all_differ}
+use Rattle.helios_model.specs.Texts.{all_differ}
 use Rattle.json_text.specs.Names.{is_name}
 use Rattle.commit_offsets.specs.Forms.{are_names}
 

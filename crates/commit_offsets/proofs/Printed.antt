@@ -3,7 +3,7 @@ use Rattle.std.proofs.Common.{◌≡◌, ℕ, ◌+◌, ◌≤◌, Bool, true, fa
 use Rattle.std.specs.Prelude.{negsuc, sum}
 use Rattle.std.specs.List.{range_with_len}
 use Rattle.helios_model.specs.Offset.{offset}
-use Rattle.helios_model.specs.Setting.{Setting, count_of, rtt}
+use Rattle.helios_model.specs.Plans.{PlanData, count_of, rtt}
 use Rattle.serde_json.specs.Data.{Data, string, depth, items_depth}
 use Rattle.serde_json.specs.View.{items_of}
 use Rattle.serde_json.specs.Written.{has_float, items_have_float}
@@ -29,7 +29,7 @@ unfolding members_data
 members_float latency names offsets pair trips total a b c d e f =
     neither (has_float latency) _ a (neither (has_float names) _ b (neither (has_float offsets) _ c (neither (has_float pair) _ d (neither (has_float trips) _ e (neither (has_float total) _ f refl)))))
 
-pub no_float : (plan : Setting) (pair : List ℕ) → has_float (plan_data plan pair) ≡ false
+pub no_float : (plan : PlanData) (pair : List ℕ) → has_float (plan_data plan pair) ≡ false
 no_float plan pair = members_float (array_data whole plan.latencies) (array_data string plan.names)
     (square_data (count_of plan) (λ i j. signed (offset plan i j))) (array_data whole pair)
     (square_data (count_of plan) (λ i j. whole (rtt plan i j))) (whole (sum plan.latencies))
@@ -58,7 +58,7 @@ members_depth-le : (latency names offsets pair trips total : Data) → depth lat
 unfolding members_data
 members_depth-le latency names offsets pair trips total a b c d e f = omega arith
 
-pub shallow : (plan : Setting) (pair : List ℕ) → depth (plan_data plan pair) ≤ 127
+pub shallow : (plan : PlanData) (pair : List ℕ) → depth (plan_data plan pair) ≤ 127
 shallow plan pair = members_depth-le (array_data whole plan.latencies) (array_data string plan.names)
     (square_data (count_of plan) (λ i j. signed (offset plan i j))) (array_data whole pair)
     (square_data (count_of plan) (λ i j. whole (rtt plan i j))) (whole (sum plan.latencies))

@@ -12,11 +12,11 @@ use Rattle.std.proofs.lemmas.List.Elements.{All-weaker}
 use Rattle.std.proofs.lemmas.List.FromFn.{map-range_with_len_more, length-range_with_len, fill_by_all, get_or-map-range_with_len}
 use Rattle.std.proofs.lemmas.List.Sums.{list_all-from_AllPass}
 use Rattle.std.proofs.lemmas.Nat.{div-mul-add, mod-mul-add, div-add-mod'}
-use Rattle.helios_model.specs.Distinct.{all_differ}
-use Rattle.helios_model.specs.Limits.{IsName, IsNameByte, longest_trip, greatest_latency}
+use Rattle.helios_model.specs.Texts.{all_differ, IsName, IsNameByte}
+use Rattle.helios_model.specs.Limits.{longest_trip, greatest_latency}
 use Rattle.helios_model.specs.Offset.{offset}
-use Rattle.helios_model.specs.Setting.{Setting, IsMatrix, IsPlan, count_of, rtt, latency, trip_at}
-use Rattle.helios_model.specs.declared.plan.Certificate.{Certificate}
+use Rattle.helios_model.specs.Plans.{PlanData, IsMatrix, IsPlan, count_of, rtt, latency, trip_at}
+use Rattle.helios_model.specs.declared.plans.Certificate.{Certificate}
 use Rattle.helios_model.proofs.FirstBelow.{find_none}
 use Rattle.helios_model.proofs.PlanLimits.{latency_bounded}
 use Rattle.json_text.specs.Arrays.{whole_number, integer, each_of, counted, array_of, row_of, square_of}
@@ -155,25 +155,25 @@ integer_signed (pos n) small = ap (λ b. cond b (Some (pos n)) None) (lt-ltb n (
     below k h = omega (arith, ints)
 integer_signed (negsuc n) small = refl
 
-offset_small : (plan : Setting) → IsPlan plan.names plan.trips plan.latencies → (i j : ℕ) → offset plan i j ≤ℤ pos greatest_latency
+offset_small : (plan : PlanData) → IsPlan plan.names plan.trips plan.latencies → (i j : ℕ) → offset plan i j ≤ℤ pos greatest_latency
 offset_small plan limits i j = by_case (nat_eq i j) (latency plan i) (rtt plan i j) (latency_bounded plan limits i)
   where
     by_case : (b : Bool) (l r : ℕ) → l ≤ greatest_latency → cond b (pos 0) (pos l -ℤ pos r) ≤ℤ pos greatest_latency
     by_case true l r h = omega (arith, ints)
     by_case false l r h = omega (arith, ints)
 
-abbrev offsets_list : Setting → List ℤ
+abbrev offsets_list : PlanData → List ℤ
 offsets_list plan = flattened (count_of plan) (count_of plan) (offset plan)
 
-offsets_read : (plan : Setting) → IsPlan plan.names plan.trips plan.latencies → square_of (count_of plan) integer (square_data (count_of plan) (λ i j. signed (offset plan i j))) ≡ Some (offsets_list plan)
+offsets_read : (plan : PlanData) → IsPlan plan.names plan.trips plan.latencies → square_of (count_of plan) integer (square_data (count_of plan) (λ i j. signed (offset plan i j))) ≡ Some (offsets_list plan)
 offsets_read plan limits = square_read (count_of plan) integer (λ i j. signed (offset plan i j)) (offset plan) (λ i j. integer_signed (offset plan i j) (offset_small plan limits i j))
 
 -- ---- the plan
 
-abbrev fields_of : Setting → List ℕ → PlanFields
+abbrev fields_of : PlanData → List ℕ → PlanFields
 fields_of plan pair = record { names = plan.names; trips = plan.trips; latencies = plan.latencies; offsets = offsets_list plan; pair = pair; total = sum plan.latencies }
 
-fields_read : (plan : Setting) (pair : List ℕ) → IsPlan plan.names plan.trips plan.latencies → length pair ≡ count_of plan → fields_at (plan_data plan pair) ≡ Ok (fields_of plan pair)
+fields_read : (plan : PlanData) (pair : List ℕ) → IsPlan plan.names plan.trips plan.latencies → length pair ≡ count_of plan → fields_at (plan_data plan pair) ≡ Ok (fields_of plan pair)
 unfolding fields_at members_data version_of
 fields_read plan pair limits long =
     let names : names_of (array_data string plan.names) ≡ Some plan.names = names_read plan.names plan.trips limits.matrix in
@@ -186,7 +186,7 @@ fields_read plan pair limits long =
 int_same : (z : ℤ) → int_eq z z ≡ true
 int_same z = (int_eq_equiv).refl z
 
-no_other : (plan : Setting) → other_offset plan (offsets_list plan) ≡ None
+no_other : (plan : PlanData) → other_offset plan (offsets_list plan) ≡ None
 unfolding other_offset
 no_other plan =
     let n : ℕ = count_of plan in
@@ -199,7 +199,7 @@ within_read : (name : FieldName) (limit : ℕ) (xs : List ℕ) → All (λ x. x 
 unfolding limited
 within_read name limit xs low = ap (demand (refusals.Limit name)) (list_all-from_AllPass (λ x. nat_le x limit) xs (All-weaker (λ x. x ≤ limit) (λ x. nat_le x limit ≡ true) (λ x h. le-leb x limit h) xs low))
 
-accepted_read : (plan : Setting) (pair : List ℕ) → IsPlan plan.names plan.trips plan.latencies → All (λ partner. partner ≤ 31) pair → accepted (fields_of plan pair) ≡ Ok (plan, record { pair = pair })
+accepted_read : (plan : PlanData) (pair : List ℕ) → IsPlan plan.names plan.trips plan.latencies → All (λ partner. partner ≤ 31) pair → accepted (fields_of plan pair) ≡ Ok (plan, record { pair = pair })
 unfolding accepted
 accepted_read plan pair limits sites =
     let trips : limited fields.Rtt longest_trip plan.trips ≡ Ok tt = within_read fields.Rtt longest_trip plan.trips limits.matrix.short in
@@ -210,11 +210,11 @@ accepted_read plan pair limits sites =
     rw (trips, latencies, pairs, offsets, total) refl
 
 -- the value of a plan within its limits is read as the plan
-pub read_again : (plan : Setting) (pair : List ℕ) → IsPlan plan.names plan.trips plan.latencies → length pair ≡ count_of plan → All (λ partner. partner ≤ 31) pair → plan_at (plan_data plan pair) ≡ Ok (plan, record { pair = pair })
+pub read_again : (plan : PlanData) (pair : List ℕ) → IsPlan plan.names plan.trips plan.latencies → length pair ≡ count_of plan → All (λ partner. partner ≤ 31) pair → plan_at (plan_data plan pair) ≡ Ok (plan, record { pair = pair })
 unfolding plan_at
 read_again plan pair limits long sites = ap (λ r. r >>= accepted) (fields_read plan pair limits long) ∙ accepted_read plan pair limits sites
 
 -- a text of that value is read as the plan
-pub text_read_again : (plan : Setting) (pair text : List ℕ) → IsPlan plan.names plan.trips plan.latencies → length pair ≡ count_of plan → All (λ partner. partner ≤ 31) pair → json_of text ≡ Some (plan_data plan pair) → plan_of_text text ≡ Ok (plan, record { pair = pair })
+pub text_read_again : (plan : PlanData) (pair text : List ℕ) → IsPlan plan.names plan.trips plan.latencies → length pair ≡ count_of plan → All (λ partner. partner ≤ 31) pair → json_of text ≡ Some (plan_data plan pair) → plan_of_text text ≡ Ok (plan, record { pair = pair })
 unfolding plan_of_text
 text_read_again plan pair text limits long sites is = ap (λ o. required refusals.NotJson o >>= plan_at) is ∙ read_again plan pair limits long sites

@@ -1,7 +1,7 @@
 -- Places of a square, row after row.
 use Rattle.std.proofs.Common.{◌≡◌, ◌≢◌, ℕ, ◌+◌, ◌*◌, ◌<◌, false, nat_eq, List, arith}
 use Rattle.std.proofs.lemmas.Bool.{ne_eqb}
-use Rattle.helios_model.specs.Setting.{trip_at}
+use Rattle.helios_model.specs.Plans.{trip_at}
 use Rattle.commit_offsets.proofs.Below.{not_all_below}
 use Rattle.commit_offsets.specs.Forms.{is_symmetric_row, is_symmetric, has_zero_diagonal}
 

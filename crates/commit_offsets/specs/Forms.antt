@@ -1,8 +1,8 @@
 -- The form of each field of a plan's text.
 use Rattle.std.specs.Prelude.{ℕ, ℤ, ◌&&◌, ◌==◌, Bool, not, nat_le, List, length, Option, Some, None, option_and_then, if◌then◌else◌}
 use Rattle.std.specs.List.{list_all, range_with_len}
-use Rattle.helios_model.specs.Distinct.{all_differ}
-use Rattle.helios_model.specs.Setting.{trip_at}
+use Rattle.helios_model.specs.Texts.{all_differ}
+use Rattle.helios_model.specs.Plans.{trip_at}
 use Rattle.json_text.specs.Arrays.{whole_number, integer, array_of, row_of, square_of}
 use Rattle.json_text.specs.Names.{is_name}
 use Rattle.serde_json.specs.Data.{Data}

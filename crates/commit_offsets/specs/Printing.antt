@@ -2,7 +2,7 @@
 use Rattle.std.specs.Prelude.{ℕ, ℤ, List, [], ◌∷◌, ◌++◌, map, sum, codes}
 use Rattle.std.specs.List.{range_with_len}
 use Rattle.helios_model.specs.Offset.{offset}
-use Rattle.helios_model.specs.Setting.{Setting, count_of, rtt}
+use Rattle.helios_model.specs.Plans.{PlanData, count_of, rtt}
 use Rattle.serde_json.specs.Data.{Data, unsigned, number, string, array, object, no_members, member}
 use Rattle.serde_json.specs.Find.{of_integer}
 use Rattle.serde_json.specs.View.{items_of}
@@ -32,12 +32,12 @@ members_data latency names offset pair rtt total =
     object (member (codes "latency") latency (member (codes "names") names (member (codes "offset") offset (member (codes "pair") pair
     (member (codes "rtt") rtt (member (codes "total") total (member (codes "version") (whole 1) no_members)))))))
 
-abbrev pub plan_data : Setting → List ℕ → Data
+abbrev pub plan_data : PlanData → List ℕ → Data
 plan_data plan pair =
     members_data (array_data whole plan.latencies) (array_data string plan.names)
     (square_data (count_of plan) (λ i j. signed (offset plan i j))) (array_data whole pair)
     (square_data (count_of plan) (λ i j. whole (rtt plan i j))) (whole (sum plan.latencies))
 
 -- the text without blanks, and a line feed
-abbrev pub plan_text : Setting → List ℕ → List ℕ
+abbrev pub plan_text : PlanData → List ℕ → List ℕ
 plan_text plan pair = compact_text (plan_data plan pair) ++ 10 ∷ []

@@ -4,8 +4,8 @@ use Rattle.std.specs.Ordering.{int_eq}
 use Rattle.std.specs.List.{list_all, range_with_len}
 use Rattle.helios_model.specs.Limits.{longest_trip, greatest_latency}
 use Rattle.helios_model.specs.Offset.{offset}
-use Rattle.helios_model.specs.Setting.{Setting, count_of}
-use Rattle.helios_model.specs.declared.plan.Certificate.{Certificate}
+use Rattle.helios_model.specs.Plans.{PlanData, count_of}
+use Rattle.helios_model.specs.declared.plans.Certificate.{Certificate}
 use Rattle.json_text.specs.Arrays.{whole_number}
 use Rattle.json_text.specs.Reading.{◌>>=◌, required, demand}
 use Rattle.json_text.specs.Text.{json_of}
@@ -51,11 +51,11 @@ unfoldable pub limited : FieldName → ℕ → List ℕ → Result (Unit {0}) Pl
 limited name limit numbers = demand (refusals.Limit name) (list_all (λ n. nat_le n limit) numbers)
 
 -- whether the offset at a place, row after row, isn't the plan's
-abbrev pub differs_at : Setting → List ℤ → ℕ → Bool
+abbrev pub differs_at : PlanData → List ℤ → ℕ → Bool
 differs_at plan offsets place = not (int_eq (slice_index_or offsets place (pos 0)) (offset plan (place / count_of plan) (place % count_of plan)))
 
 -- the first place, in row order, of an offset that isn't the plan's
-unfoldable pub other_offset : Setting → List ℤ → Option ℕ
+unfoldable pub other_offset : PlanData → List ℤ → Option ℕ
 other_offset plan offsets = find (differs_at plan offsets) (range_with_len 0 (count_of plan * count_of plan))
 
 -- the offset of two sites differs where there is such a place
@@ -63,11 +63,11 @@ abbrev pub offset_refusal : ℕ → Option ℕ → Result (Unit {0}) PlanRefusal
 offset_refusal count None = Ok tt
 offset_refusal count (Some place) = Err (refusals.OffsetDiffers (place / count) (place % count))
 
-abbrev pub planned : PlanFields → Setting
+abbrev pub planned : PlanFields → PlanData
 planned f = record { names = f.names; trips = f.trips; latencies = f.latencies }
 
 -- the plan and the certificate of fields whose numbers agree, or the first that doesn't
-unfoldable pub accepted : PlanFields → Result (Setting × Certificate) PlanRefusal
+unfoldable pub accepted : PlanFields → Result (PlanData × Certificate) PlanRefusal
 accepted f = do
   trips ← limited fields.Rtt longest_trip f.trips
   latencies ← limited fields.Latency greatest_latency f.latencies
@@ -77,9 +77,9 @@ accepted f = do
   Ok (planned f, record { pair = f.pair })
 
 -- what a JSON value says as a plan
-unfoldable pub plan_at : Data → Result (Setting × Certificate) PlanRefusal
+unfoldable pub plan_at : Data → Result (PlanData × Certificate) PlanRefusal
 plan_at d = fields_at d >>= accepted
 
 -- what a text says as a plan
-unfoldable pub plan_of_text : List ℕ → Result (Setting × Certificate) PlanRefusal
+unfoldable pub plan_of_text : List ℕ → Result (PlanData × Certificate) PlanRefusal
 plan_of_text bytes = required refusals.NotJson (json_of bytes) >>= plan_at

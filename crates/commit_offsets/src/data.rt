@@ -1,7 +1,6 @@
 ghost use Rattle.std.specs.Prelude.{◌≡◌, ℕ, ℤ, List};
 
-use helios_model::names::Names;
-use helios_model::numbers::Times;
+use helios_model::{Names, Times};
 use std::marker::Model;
 
 /// Offsets as a text gives them, row after row, in half microseconds.

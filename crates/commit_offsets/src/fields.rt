@@ -9,8 +9,7 @@ ghost use Rattle.commit_offsets.specs.declared.refusal.FieldName.TheVariants as 
 use crate::data::{GivenOffsets, PlanFields};
 use crate::forms::{are_names, has_zero_diagonal, is_symmetric};
 use crate::refusal::{FieldName, PlanRefusal};
-use helios_model::names::{Name, Names};
-use helios_model::numbers::Times;
+use helios_model::{Name, Names, Times};
 use json_text::{row, square, texts};
 use serde_json::Value;
 use std::alloc::{AllocError, Global};

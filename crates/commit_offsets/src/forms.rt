@@ -1,11 +1,11 @@
 ghost use Rattle.std.specs.Prelude.{◌≡◌, ◌*◌, ◌<◌, ◌≤◌, length};
 ghost use Rattle.std.specs.List.{list_all, list_any};
-ghost use Rattle.helios_model.specs.Distinct.{all_differ, same_text};
-ghost use Rattle.helios_model.specs.Setting.{trip_at};
+ghost use Rattle.helios_model.specs.Texts.{all_differ, same_text};
+ghost use Rattle.helios_model.specs.Plans.{trip_at};
 ghost use Rattle.json_text.specs.Names.{is_name};
 ghost use Rattle.commit_offsets.specs.Forms.{are_names, is_symmetric_row, is_symmetric, has_zero_diagonal};
 
-use helios_model::names::Name;
+use helios_model::Name;
 use json_text::is_name;
 
 fn all_named(names: &[Name]) -> bool

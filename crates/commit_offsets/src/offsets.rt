@@ -1,10 +1,9 @@
 ghost use Rattle.std.specs.Prelude.{◌≡◌, ◌*◌, ◌<◌, length};
 ghost use Rattle.helios_model.specs.Offset.{offset as planned_offset};
-ghost use Rattle.helios_model.specs.Setting.{count_of};
+ghost use Rattle.helios_model.specs.Plans.{count_of};
 ghost use Rattle.commit_offsets.specs.Reading.{differs_at as is_other_at, other_offset};
 
-use helios_model::ids::SiteId;
-use helios_model::plan::Plan;
+use helios_model::{Plan, SiteId};
 
 /// The offset from one site to another, in half microseconds: 0 from a site to itself, else the first one's latency
 /// less the round trip.

@@ -1,5 +1,5 @@
 ghost use Rattle.std.specs.Prelude.{◌≡◌, ◌≤◌, [], ◌∷◌, ◌++◌, false, All, IfOk, length};
-ghost use Rattle.helios_model.specs.Setting.{count_of};
+ghost use Rattle.helios_model.specs.Plans.{count_of};
 ghost use Rattle.json_text.specs.Text.{json_of};
 ghost use Rattle.serde_json.specs.Data.{depth};
 ghost use Rattle.serde_json.specs.View.{view};
@@ -9,8 +9,7 @@ ghost use Rattle.commit_offsets.specs.Reading.{plan_of_text};
 
 use crate::reading::sum_of;
 use crate::values::{names, numbers, offsets, sites, trips};
-use helios_model::numbers::Bytes;
-use helios_model::plan::{Certificate, Plan};
+use helios_model::{Bytes, Certificate, Plan};
 use serde_json::{Value, json};
 use std::alloc::{AllocError, Global};
 

@@ -1,6 +1,6 @@
 ghost use Rattle.std.specs.Prelude.{◌≡◌, ◌*◌, ◌<◌, ◌≤◌, ◌^◌, ◌==◌, All, IfOk, OnOk, length, nat_le, sum};
 ghost use Rattle.std.specs.List.{list_all};
-ghost use Rattle.helios_model.specs.Setting.{count_of};
+ghost use Rattle.helios_model.specs.Plans.{count_of};
 ghost use Rattle.json_text.specs.Reading.{Gives, demand};
 ghost use Rattle.serde_json.specs.View.{view};
 ghost use Rattle.commit_offsets.specs.Reading.{HaveForms, accepted, limited, offset_refusal, other_offset, plan_at, plan_of_text};
@@ -9,8 +9,7 @@ use crate::data::PlanFields;
 use crate::fields::plan_fields;
 use crate::offsets::first_other;
 use crate::refusal::{FieldName, PlanRefusal};
-use helios_model::numbers::Places;
-use helios_model::plan::{Certificate, Plan};
+use helios_model::{Certificate, Places, Plan};
 use json_text::value_of;
 use serde_json::Value;
 use std::alloc::{AllocError, Global};

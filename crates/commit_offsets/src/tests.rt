@@ -1,5 +1,5 @@
 use super::*;
-use helios_model::ids::SiteId;
+use helios_model::SiteId;
 use std::alloc::{AllocError, Global};
 use std::test::Fail;
 

@@ -1,14 +1,12 @@
 ghost use Rattle.std.specs.Prelude.{◌≡◌, ◌<◌, IfOk};
 ghost use Rattle.helios_model.specs.Offset.{offset as planned_offset};
-ghost use Rattle.helios_model.specs.Setting.{count_of, rtt};
+ghost use Rattle.helios_model.specs.Plans.{count_of, rtt};
 ghost use Rattle.serde_json.specs.Data.{string};
 ghost use Rattle.serde_json.specs.View.{view};
 ghost use Rattle.commit_offsets.specs.Printing.{array_data, row_data, signed, square_data, whole};
 
 use crate::offsets::offset;
-use helios_model::ids::SiteId;
-use helios_model::names::Name;
-use helios_model::plan::Plan;
+use helios_model::{Name, Plan, SiteId};
 use serde_json::Value;
 use std::alloc::{AllocError, Global};
 

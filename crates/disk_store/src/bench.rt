@@ -3,7 +3,7 @@ ghost use Rattle.std.specs.Prelude.{◌≡◌, ◌<◌, length, replicate, get_o
 ghost use Rattle.std.specs.Borrow.{sem};
 
 use crate::MemDisk;
-use helios_model::ids::SiteId;
+use helios_model::SiteId;
 use std::alloc::{AllocError, Global};
 use std::marker::Model;
 

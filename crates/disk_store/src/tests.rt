@@ -1,7 +1,7 @@
 ghost use Rattle.std.specs.Prelude.{◌≤◌, IsErr, IfOk};
 
 use super::*;
-use helios_model::ids::SiteId;
+use helios_model::SiteId;
 use outside_io::Failed;
 use std::alloc::{Allocator, Global};
 use std::cell::Cell;

@@ -2,7 +2,7 @@ use Rattle.std.proofs.Common.{◌≡◌, ℕ, ◌+◌, ◌≤◌, false, arith}
 use Rattle.std.specs.Prelude.{◌↔◌, pos, ◌+ℤ◌, ◌-ℤ◌, ◌≤ℤ◌, IsTrue, nat_eq, nat_le}
 use Rattle.std.proofs.lemmas.Int.{ints}
 use Rattle.std.proofs.lemmas.Bool.{ne_eqb, le-leb, leb-true}
-use Rattle.helios_model.specs.Setting.{rtt, latency}
+use Rattle.helios_model.specs.Plans.{rtt, latency}
 use Rattle.helios_model.specs.Offset.{OffsetsAreTested}
 
 reached : (l r q time : ℕ) → (pos q +ℤ (pos l -ℤ pos r)) ≤ℤ pos time → q + l ≤ time + r

@@ -1,4 +1,5 @@
-use Rattle.std.specs.Prelude.{Bool, true, false, ◌&&◌, nat_eq}
+-- Ids and versions: which are the same, and how they are printed.
+use Rattle.std.specs.Prelude.{Bool, true, false, ◌&&◌, nat_eq, ℕ, List, ◌++◌, codes, decimal}
 use Rattle.helios_model.specs.declared.ids.TxnId.{TxnId}
 use Rattle.helios_model.specs.declared.ids.Version.{Version}
 use Rattle.helios_model.specs.declared.ids.Version.TheVariants.{Initial, Of}
@@ -11,3 +12,11 @@ same_version Initial Initial = true
 same_version Initial (Of b) = false
 same_version (Of a) Initial = false
 same_version (Of a) (Of b) = same_id a b
+
+-- an id as it is printed: SITE@TIME
+abbrev pub id_text : TxnId → List ℕ
+id_text id = decimal id.site ++ codes "@" ++ decimal id.time
+
+abbrev pub version_text : Version → List ℕ
+version_text Initial = codes "initial"
+version_text (Of id) = id_text id

@@ -1,12 +1,10 @@
 pub mod Limits
+pub mod Texts
 pub mod Ids
-pub mod Distinct
-pub mod Transaction
-pub mod Asking
-pub mod Conflict
-pub mod TransactionLimits
-pub mod Setting
+pub mod Transactions
+pub mod Plans
 pub mod Offset
+pub mod Optimal
 pub mod Log
 pub mod Node
 pub mod Settle
@@ -15,7 +13,4 @@ pub mod Step
 pub mod World
 pub mod Serial
 pub mod NamedAbort
-pub mod Texts
 pub mod Laws
-pub mod Certificate
-pub mod Optimal

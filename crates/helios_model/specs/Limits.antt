@@ -1,8 +1,21 @@
-use Rattle.std.specs.Prelude.{◌≡◌, ℕ, ◌-◌, ◌^◌, ◌≤◌, List, length, All}
+-- The limits of the protocol, each once and with its unit.
+use Rattle.std.specs.Prelude.{ℕ, ◌-◌, ◌^◌}
 
 -- the most sites that a cluster has
 abbrev pub most_sites : ℕ
 most_sites = 32
+
+-- the most bytes of a site's name
+abbrev pub most_name_bytes : ℕ
+most_name_bytes = 32
+
+-- the most bytes of a key
+abbrev pub most_key_bytes : ℕ
+most_key_bytes = 64
+
+-- the most bytes of a stored value
+abbrev pub most_value_bytes : ℕ
+most_value_bytes = 1024
 
 -- the longest round trip, in microseconds
 abbrev pub longest_trip : ℕ
@@ -35,24 +48,3 @@ last_reading = 2 ^ 62 - 2 ^ 18
 -- the time of a site from which on it answers that its clock is spent
 abbrev pub spent_time : ℕ
 spent_time = 2 ^ 62 - 2 ^ 17
-
--- a byte of a printed name: printable ASCII without the blank
-abbrev pub IsNameByte : ℕ → Type 0
-IsNameByte b = (33 ≤ b) × (b ≤ 126)
-
--- a byte of a key: as of a name, and not the sign `=`
-abbrev pub IsKeyByte : ℕ → Type 0
-IsKeyByte b = (33 ≤ b) × (b ≤ 126) × (b ≡ 61 → ⊥)
-
-pub record IsName (bytes : List ℕ) : Type 0 where
-  pub some : 1 ≤ length bytes
-  pub most : length bytes ≤ 32
-  pub printable : All IsNameByte bytes
-
-pub record IsKey (bytes : List ℕ) : Type 0 where
-  pub some : 1 ≤ length bytes
-  pub most : length bytes ≤ 64
-  pub printable : All IsKeyByte bytes
-
-abbrev pub IsValue : List ℕ → Type 0
-IsValue bytes = length bytes ≤ 1024

@@ -4,13 +4,13 @@ use Rattle.std.specs.Option.{option_map}
 use Rattle.helios_model.specs.declared.ids.TxnId.{TxnId}
 use Rattle.helios_model.specs.declared.ids.Version.{Version}
 use Rattle.helios_model.specs.declared.ids.Version.TheVariants.{Initial, Of}
-use Rattle.helios_model.specs.declared.items.WriteItem.{WriteItem}
-use Rattle.helios_model.specs.declared.record.Record.{Record}
-use Rattle.helios_model.specs.declared.record.Record.TheVariants.{Prepare, Commit, Abort}
-use Rattle.helios_model.specs.declared.commits.CommitEvent.{CommitEvent}
+use Rattle.helios_model.specs.declared.transactions.WriteItem.{WriteItem}
+use Rattle.helios_model.specs.declared.records.Record.{Record}
+use Rattle.helios_model.specs.declared.records.Record.TheVariants.{Prepare, Commit, Abort}
+use Rattle.helios_model.specs.declared.records.CommitEvent.{CommitEvent}
 use Rattle.helios_model.specs.Ids.{same_id}
-use Rattle.helios_model.specs.Transaction.{Transaction}
-use Rattle.helios_model.specs.Conflict.{same_key, writes_key}
+use Rattle.helios_model.specs.Transactions.{Transaction, writes_key}
+use Rattle.helios_model.specs.Texts.{same_text}
 
 abbrev pub id_of : Record → TxnId
 id_of (Prepare p) = p.id
@@ -75,7 +75,7 @@ current log key = fold (version_after key) Initial (commits log)
 
 -- what a transaction writes under a key
 abbrev pub written : Transaction → List ℕ → Option WriteItem
-written p key = find (λ w. same_key w.key key) p.writes
+written p key = find (λ w. same_text w.key key) p.writes
 
 abbrev pub write_over : List ℕ → Option WriteItem → List ℕ
 write_over value None = value

@@ -2,20 +2,18 @@ use Rattle.std.specs.Prelude.{◌≡◌, ◌≢◌, true, false, ℕ, List, Cont
 use Rattle.helios_model.specs.declared.ids.TxnId.{TxnId}
 use Rattle.helios_model.specs.declared.ids.Version.{Version}
 use Rattle.helios_model.specs.declared.ids.Version.TheVariants.{Initial, Of}
-use Rattle.helios_model.specs.declared.items.ReadItem.{ReadItem}
-use Rattle.helios_model.specs.declared.input.Input.{Input}
-use Rattle.helios_model.specs.declared.input.Input.TheVariants.{Request}
-use Rattle.helios_model.specs.declared.record.Record.{Record}
-use Rattle.helios_model.specs.declared.record.Record.TheVariants.{Prepare, Commit}
-use Rattle.helios_model.specs.declared.reply.Reply.{Reply}
-use Rattle.helios_model.specs.declared.reply.Reply.TheVariants.{Prepared, Committed, Overwritten, Conflict, ClockSpent, PoolFull}
-use Rattle.helios_model.specs.declared.commits.CommitEvent.{CommitEvent}
-use Rattle.helios_model.specs.Transaction.{Transaction}
-use Rattle.helios_model.specs.Asking.{Asking}
-use Rattle.helios_model.specs.Conflict.{conflict, writes_key}
+use Rattle.helios_model.specs.declared.transactions.ReadItem.{ReadItem}
+use Rattle.helios_model.specs.declared.entries.Input.{Input}
+use Rattle.helios_model.specs.declared.entries.Input.TheVariants.{Request}
+use Rattle.helios_model.specs.declared.records.Record.{Record}
+use Rattle.helios_model.specs.declared.records.Record.TheVariants.{Prepare, Commit}
+use Rattle.helios_model.specs.declared.entries.Reply.{Reply}
+use Rattle.helios_model.specs.declared.entries.Reply.TheVariants.{Prepared, Committed, Overwritten, Conflict, ClockSpent, PoolFull}
+use Rattle.helios_model.specs.declared.records.CommitEvent.{CommitEvent}
+use Rattle.helios_model.specs.Transactions.{Transaction, Asking, conflict, writes_key}
 use Rattle.helios_model.specs.Log.{finished}
 use Rattle.helios_model.specs.Request.{asked}
-use Rattle.helios_model.specs.Setting.{Setting}
+use Rattle.helios_model.specs.Plans.{PlanData}
 use Rattle.helios_model.specs.World.{World, Told, node_of}
 
 -- the version is that of a commit event that writes the key and whose Commit stands among these records
@@ -59,5 +57,5 @@ abbrev pub IsNamedTo : List CommitEvent → List Record → Input → Reply → 
 IsNamedTo history records (Request ask) reply = IsNamed history records ask reply
 
 -- a released reply names what stood in the way among the records that the site's log had just before the input
-abbrev pub ToldIsNamed : Setting → World → Told → Type 0
+abbrev pub ToldIsNamed : PlanData → World → Told → Type 0
 ToldIsNamed plan w told = IsNamedTo w.history (take told.log_length (node_of plan w told.site).log) told.input told.reply

@@ -1,12 +1,12 @@
 use Rattle.std.specs.Prelude.{Bool, ℕ, ◌+◌, ◌*◌, List, [], ◌∷◌, ◌++◌, Option, Some, None, ◌&&◌, nat_eq, nat_le, min, max, replicate, slice_index, slice_set, if◌then◌else◌, find, filter, is_some}
 use Rattle.helios_model.specs.declared.ids.TxnId.{TxnId}
-use Rattle.helios_model.specs.declared.record.Record.{Record}
-use Rattle.helios_model.specs.declared.record.Record.TheVariants.{Prepare, Commit, Abort}
-use Rattle.helios_model.specs.declared.reply.State.{State}
-use Rattle.helios_model.specs.declared.reply.State.TheVariants.{Pending, Committed, Aborted, Unknown}
+use Rattle.helios_model.specs.declared.records.Record.{Record}
+use Rattle.helios_model.specs.declared.records.Record.TheVariants.{Prepare, Commit, Abort}
+use Rattle.helios_model.specs.declared.entries.State.{State}
+use Rattle.helios_model.specs.declared.entries.State.TheVariants.{Pending, Committed, Aborted, Unknown}
 use Rattle.helios_model.specs.Limits.{last_reading, spent_time}
-use Rattle.helios_model.specs.Transaction.{Transaction}
-use Rattle.helios_model.specs.Setting.{Setting, count_of}
+use Rattle.helios_model.specs.Transactions.{Transaction}
+use Rattle.helios_model.specs.Plans.{PlanData, count_of}
 use Rattle.helios_model.specs.Log.{ends, prepare_of, unfinished}
 
 -- a site: its number, its whole log in order of arrival, and its table of times, row after row
@@ -21,18 +21,18 @@ at count table row column = slice_index table (row * count + column)
 abbrev pub put : ℕ → List ℕ → ℕ → ℕ → ℕ → List ℕ
 put count table row column time = slice_set table (row * count + column) time
 
-abbrev pub empty_node : Setting → ℕ → Node
+abbrev pub empty_node : PlanData → ℕ → Node
 empty_node plan site = record { site = site; log = []; table = replicate (count_of plan * count_of plan) 0 }
 
 -- up to when site j knows site k, as far as this node knows
-abbrev pub known : Setting → Node → ℕ → ℕ → ℕ
+abbrev pub known : PlanData → Node → ℕ → ℕ → ℕ
 known plan n j k = at (count_of plan) n.table j k
 
 -- the node's own time
-abbrev pub clock : Setting → Node → ℕ
+abbrev pub clock : PlanData → Node → ℕ
 clock plan n = known plan n n.site n.site
 
-abbrev pub with_clock : Setting → Node → ℕ → Node
+abbrev pub with_clock : PlanData → Node → ℕ → Node
 with_clock plan n time = record { site = n.site; log = n.log; table = put (count_of plan) n.table n.site n.site time }
 
 abbrev pub with_record : Node → Record → Node
@@ -43,11 +43,11 @@ abbrev pub clamp : ℕ → ℕ
 clamp reading = min reading last_reading
 
 -- the time of a new own record
-abbrev pub next_time : Setting → Node → ℕ → ℕ
+abbrev pub next_time : PlanData → Node → ℕ → ℕ
 next_time plan n reading = max (clamp reading) (clock plan n + 1)
 
 -- the site's clock has come to its end
-abbrev pub is_spent : Setting → Node → Bool
+abbrev pub is_spent : PlanData → Node → Bool
 is_spent plan n = nat_le spent_time (clock plan n)
 
 abbrev pub is_own : ℕ → Transaction → Bool

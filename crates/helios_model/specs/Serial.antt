@@ -1,9 +1,9 @@
 use Rattle.std.specs.Prelude.{◌≡◌, false, ℕ, List, [], ◌∷◌, All, AllPairs}
 use Rattle.helios_model.specs.declared.ids.Version.{Version}
 use Rattle.helios_model.specs.declared.ids.Version.TheVariants.{Initial}
-use Rattle.helios_model.specs.declared.commits.CommitEvent.{CommitEvent}
+use Rattle.helios_model.specs.declared.records.CommitEvent.{CommitEvent}
 use Rattle.helios_model.specs.Ids.{same_id}
-use Rattle.helios_model.specs.Transaction.{Transaction}
+use Rattle.helios_model.specs.Transactions.{Transaction}
 use Rattle.helios_model.specs.Log.{version_after}
 
 -- every read has the map's version, and every write overwrites it

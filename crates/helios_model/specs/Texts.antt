@@ -1,12 +1,38 @@
-use Rattle.std.specs.Prelude.{ℕ, List, ◌++◌, codes, decimal}
-use Rattle.helios_model.specs.declared.ids.TxnId.{TxnId}
-use Rattle.helios_model.specs.declared.ids.Version.{Version}
-use Rattle.helios_model.specs.declared.ids.Version.TheVariants.{Initial, Of}
+-- Names, keys and values as bytes: their limits, and which of them are the same.
+use Rattle.std.specs.Prelude.{Bool, true, ℕ, List, [], ◌∷◌, ◌&&◌, nat_eq, not, ◌≡◌, ◌≤◌, length, All}
+use Rattle.std.specs.List.{list_any}
+use Rattle.std.specs.Cmp.Lexicographic.{pointwise}
+use Rattle.helios_model.specs.Limits.{most_key_bytes, most_name_bytes, most_value_bytes}
 
--- an id as it is printed: SITE@TIME
-abbrev pub id_text : TxnId → List ℕ
-id_text id = decimal id.site ++ codes "@" ++ decimal id.time
+-- a byte of a printed name: printable ASCII without the blank
+abbrev pub IsNameByte : ℕ → Type 0
+IsNameByte b = (33 ≤ b) × (b ≤ 126)
 
-abbrev pub version_text : Version → List ℕ
-version_text Initial = codes "initial"
-version_text (Of id) = id_text id
+-- a byte of a key: as of a name, and not the sign `=`
+abbrev pub IsKeyByte : ℕ → Type 0
+IsKeyByte b = (33 ≤ b) × (b ≤ 126) × (b ≡ 61 → ⊥)
+
+-- the name of a site
+pub record IsName (bytes : List ℕ) : Type 0 where
+  pub some : 1 ≤ length bytes
+  pub most : length bytes ≤ most_name_bytes
+  pub printable : All IsNameByte bytes
+
+-- the key of a stored value
+pub record IsKey (bytes : List ℕ) : Type 0 where
+  pub some : 1 ≤ length bytes
+  pub most : length bytes ≤ most_key_bytes
+  pub printable : All IsKeyByte bytes
+
+-- a stored value
+abbrev pub IsValue : List ℕ → Type 0
+IsValue bytes = length bytes ≤ most_value_bytes
+
+-- whether two texts are the same, byte for byte
+abbrev pub same_text : List ℕ → List ℕ → Bool
+same_text a b = pointwise nat_eq a b
+
+-- no two items have the same text
+abbrev pub all_differ : {X : Type 0} → (X → List ℕ) → List X → Bool
+all_differ text [] = true
+all_differ text (x ∷ xs) = not (list_any (λ other. same_text (text other) (text x)) xs) && all_differ text xs

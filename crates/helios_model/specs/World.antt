@@ -1,12 +1,12 @@
 use Rattle.std.specs.Prelude.{Bool, ℕ, ◌<◌, ◌≤◌, List, [], ◌∷◌, ◌++◌, length, nat_eq, filter, replicate, slice_index_or, slice_set, drop, fold}
 use Rattle.std.specs.List.{filter_map, flat_map}
-use Rattle.helios_model.specs.declared.input.Entry.{Entry}
-use Rattle.helios_model.specs.declared.input.Input.{Input}
-use Rattle.helios_model.specs.declared.reply.Reply.{Reply}
-use Rattle.helios_model.specs.declared.record.Record.{Record}
-use Rattle.helios_model.specs.declared.commits.CommitEvent.{CommitEvent}
+use Rattle.helios_model.specs.declared.entries.Entry.{Entry}
+use Rattle.helios_model.specs.declared.entries.Input.{Input}
+use Rattle.helios_model.specs.declared.entries.Reply.{Reply}
+use Rattle.helios_model.specs.declared.records.Record.{Record}
+use Rattle.helios_model.specs.declared.records.CommitEvent.{CommitEvent}
 use Rattle.helios_model.specs.Limits.{most_inputs}
-use Rattle.helios_model.specs.Setting.{Setting, count_of}
+use Rattle.helios_model.specs.Plans.{PlanData, count_of}
 use Rattle.helios_model.specs.Log.{commit_in}
 use Rattle.helios_model.specs.Node.{Node, empty_node}
 use Rattle.helios_model.specs.Step.{step, after_entry, after_entries, is_journaled}
@@ -32,18 +32,18 @@ pub data Ending : Type 0 where
 pub data Event : Type 0 where
   Batch : ℕ → List Entry → Ending → Event
 
-abbrev pub first_world : Setting → World
+abbrev pub first_world : PlanData → World
 first_world plan = record { journals = replicate (count_of plan) []; told = []; history = [] }
 
 abbrev pub journal_of : World → ℕ → List (List Entry)
 journal_of w site = slice_index_or w.journals site []
 
 -- the site's node is what its journal's entries make of the empty node
-abbrev pub node_of : Setting → World → ℕ → Node
+abbrev pub node_of : PlanData → World → ℕ → Node
 node_of plan w site = after_entries plan (empty_node plan site) (flat_map (λ batch. batch) (journal_of w site))
 
 -- the replies to these entries, one after the other
-abbrev pub replies : Setting → Node → List Entry → List Told
+abbrev pub replies : PlanData → Node → List Entry → List Told
 replies plan n [] = []
 replies plan n (e ∷ es) = record { site = n.site; input = e.input; reply = (step plan n e).reply; log_length = length n.log } ∷ replies plan (after_entry plan n e) es
 
@@ -63,29 +63,29 @@ abbrev pub own_commits : ℕ → List Record → ℕ → List CommitEvent
 own_commits site log old = filter (is_own_commit site) (filter_map (commit_in log) (drop old log))
 
 -- the world after a batch that was made durable and answered
-abbrev pub done : Setting → World → ℕ → List Entry → World
+abbrev pub done : PlanData → World → ℕ → List Entry → World
 done plan w site entries = record {
   journals = slice_set w.journals site (grown (journal_of w site) (journaled entries));
   told = w.told ++ replies plan (node_of plan w site) entries;
   history = w.history ++ own_commits site (after_entries plan (node_of plan w site) entries).log (length (node_of plan w site).log);
 }
 
-abbrev pub happens : Setting → World → Event → World
+abbrev pub happens : PlanData → World → Event → World
 happens plan w (Batch site entries Done) = done plan w site entries
 
 -- what a step must be
-pub record IsBatch (plan : Setting) (site : ℕ) (entries : List Entry) : Type 0 where
+pub record IsBatch (plan : PlanData) (site : ℕ) (entries : List Entry) : Type 0 where
   pub here : site < count_of plan
   pub some : 1 ≤ length entries
   pub few : length entries ≤ most_inputs
 
-abbrev pub MayHappen : Setting → World → Event → Type 0
+abbrev pub MayHappen : PlanData → World → Event → Type 0
 MayHappen plan w (Batch site entries ending) = IsBatch plan site entries
 
-abbrev pub run : Setting → World → List Event → World
+abbrev pub run : PlanData → World → List Event → World
 run plan w events = fold (happens plan) w events
 
 -- each of the events may happen in the world that the ones before it made
-abbrev pub MayRun : Setting → World → List Event → Type 0
+abbrev pub MayRun : PlanData → World → List Event → Type 0
 MayRun plan w [] = Unit {0}
 MayRun plan w (e ∷ es) = MayHappen plan w e × MayRun plan (happens plan w e) es

@@ -1,5 +1,10 @@
-ghost use Rattle.std.specs.Prelude.{◌≡◌, ℕ, ◌<◌, ◌↔◌, IsSome, IfSome};
+//! Sites, times, the ids of transactions and the versions of keys.
+ghost use Rattle.std.specs.Prelude.{◌≡◌, ℕ, ◌<◌, ◌↔◌, IsSome, IfSome, List, IfOk};
+ghost use Rattle.helios_model.specs.Limits.{most_sites};
+ghost use Rattle.helios_model.specs.declared.ids.TxnId.{TxnId};
 
+use crate::limits::MOST_SITES;
+use std::alloc::AllocError;
 use std::marker::Model;
 
 /// A site of the cluster, by its number: below 32.
@@ -9,11 +14,14 @@ pub struct SiteId {
 }
 
 impl Model for SiteId {
+    ghost use Rattle.std.specs.Prelude.{ℕ, ◌<◌};
+    ghost use Rattle.helios_model.specs.Limits.{most_sites};
+
     ghost Value = { ℕ };
 
     ghost view = { λ s. s.number };
 
-    ghost invariant = { λ s. s.number < 32 };
+    ghost invariant = { λ s. s.number < most_sites };
 
     ghost inverse = { λ n. record { number = n } };
 }
@@ -21,10 +29,10 @@ impl Model for SiteId {
 impl SiteId {
     /// The site with this number; None where no cluster has so many sites.
     pub fn new(number: u8) -> Option<SiteId>
-        ensures valid { IsSome result ↔ (number < 32) }
+        ensures valid { IsSome result ↔ (number < most_sites) }
         ensures value { IfSome result (λ s. s ≡ number) }
     {
-        if number < 32 {
+        if number < MOST_SITES {
             Some(SiteId { number })
         } else {
             None
@@ -33,7 +41,7 @@ impl SiteId {
 
     /// The site with this number, which the caller knows to be below 32.
     pub fn of(number: u8) -> SiteId
-        requires { number < 32 }
+        requires { number < most_sites }
         ensures { result ≡ number }
     {
         SiteId { number }
@@ -41,7 +49,7 @@ impl SiteId {
 
     pub fn number(self) -> u8
         ensures value { result ≡ self }
-        ensures small { result < 32 }
+        ensures small { result < most_sites }
     {
         self.number
     }
@@ -54,6 +62,8 @@ pub struct Time {
 }
 
 impl Model for Time {
+    ghost use Rattle.std.specs.Prelude.{ℕ};
+
     ghost Value = { ℕ };
 
     ghost view = { λ t. t.half_micros };
@@ -87,4 +97,42 @@ pub struct TxnId {
 pub enum Version {
     Initial,
     Of(TxnId),
+}
+
+/// Names of transactions.
+#[derive(Clone, Debug, Drop)]
+pub struct TxnIds {
+    items: Vec<TxnId>,
+}
+
+impl Model for TxnIds {
+    ghost Value = { List TxnId };
+
+    ghost view = { λ l. l.items.items };
+}
+
+impl TxnIds {
+    pub fn new(items: Vec<TxnId>) -> TxnIds
+        ensures { result ≡ items.items }
+    {
+        TxnIds { items }
+    }
+
+    pub fn items(&self) -> &[TxnId]
+        ensures { result.now ≡ self.now }
+    {
+        self.items.as_slice()
+    }
+
+    pub fn into_items(self) -> Vec<TxnId>
+        ensures { result.items ≡ self }
+    {
+        self.items
+    }
+
+    pub fn copy(&self) -> Result<TxnIds, AllocError>
+        ensures { IfOk result (λ copied. copied ≡ self.now) }
+    {
+        self.clone()
+    }
 }

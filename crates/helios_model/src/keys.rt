@@ -1,6 +1,8 @@
+//! Keys and stored values.
 ghost use Rattle.std.specs.Prelude.{◌≡◌, ℕ, ◌↔◌, List, IsTrue, IsSome, IfSome, IfOk};
-ghost use Rattle.helios_model.specs.Limits.{IsKey, IsValue};
+ghost use Rattle.helios_model.specs.Texts.{IsKey, IsValue};
 
+use crate::limits::{MOST_KEY_BYTES, MOST_VALUE_BYTES};
 use crate::numbers::Bytes;
 use std::alloc::AllocError;
 use std::marker::Model;
@@ -9,7 +11,7 @@ fn is_key(bytes: &[u8]) -> bool
     ensures { IsTrue result ↔ IsKey bytes.now }
 {
     bytes.len() >= 1
-        && bytes.len() <= 64
+        && bytes.len() <= MOST_KEY_BYTES
         && bytes.iter().all(|b| *b >= 33 && *b <= 126 && *b != b'=')
 }
 
@@ -94,7 +96,7 @@ impl Val {
         ensures valid { IsSome result ↔ IsValue bytes }
         ensures value { IfSome result (λ v. v ≡ bytes) }
     {
-        if bytes.items().len() <= 1024 {
+        if bytes.items().len() <= MOST_VALUE_BYTES {
             Some(Val { bytes })
         } else {
             None
@@ -133,4 +135,42 @@ impl Eq for Val {
     ghost use Rattle.std.specs.Cmp.Lexicographic.{nat_list_eq_equiv};
 
     ghost laws = { nat_list_eq_equiv };
+}
+
+/// A list of keys.
+#[derive(Clone, Debug, Drop)]
+pub struct Keys {
+    items: Vec<Key>,
+}
+
+impl Model for Keys {
+    ghost Value = { List (List ℕ) };
+
+    ghost view = { λ l. l.items.items };
+}
+
+impl Keys {
+    pub fn new(items: Vec<Key>) -> Keys
+        ensures { result ≡ items.items }
+    {
+        Keys { items }
+    }
+
+    pub fn items(&self) -> &[Key]
+        ensures { result.now ≡ self.now }
+    {
+        self.items.as_slice()
+    }
+
+    pub fn into_items(self) -> Vec<Key>
+        ensures { result.items ≡ self }
+    {
+        self.items
+    }
+
+    pub fn copy(&self) -> Result<Keys, AllocError>
+        ensures { IfOk result (λ copied. copied ≡ self.now) }
+    {
+        self.clone()
+    }
 }

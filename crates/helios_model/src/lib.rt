@@ -1,25 +1,30 @@
-// The data of the commit protocol, the definitions that all layers share, and the laws that follow from them.
-// The layers above use the data's limits, `conflicts`, and the definitions in specs/.
+//! The data of the commit protocol, the definitions that all layers share, and the laws that follow from them.
+//! The layers above use the types with their limits, `conflicts`, and the definitions of specs/.
 #![tactic(auto)]
 
-pub mod batches;
-pub mod commits;
-pub mod conflicts;
-mod distinct;
-pub mod history;
-pub mod ids;
-pub mod input;
-pub mod item_lists;
-pub mod items;
-pub mod keys;
+mod entries;
+mod ids;
+mod keys;
 pub mod laws;
-pub mod names;
-pub mod numbers;
-pub mod plan;
-pub mod record;
-pub mod records;
-pub mod reply;
+mod limits;
+mod numbers;
+mod plans;
+mod records;
 #[cfg(test)]
 mod tests;
 mod texts;
-pub mod transaction;
+mod transactions;
+
+pub use entries::{Entries, Entry, Input, Replies, Reply, State};
+pub use ids::{SiteId, Time, TxnId, TxnIds, Version};
+pub use keys::{Key, Keys, Val};
+pub use limits::{
+    GREATEST_LATENCY, LAST_READING, LAST_TIME, LONGEST_TRIP, MOST_INPUTS, MOST_ITEMS,
+    MOST_KEY_BYTES, MOST_NAME_BYTES, MOST_OPEN, MOST_SITES, MOST_VALUE_BYTES, SPENT_TIME,
+};
+pub use numbers::{Bytes, Places, Times};
+pub use plans::{Certificate, Matrix, Name, Names, Plan};
+pub use records::{CommitEvent, Commits, Record, Records};
+pub use transactions::{
+    Ask, Prepare, PutItem, Puts, ReadItem, Reads, WriteItem, Writes, conflicts,
+};

@@ -1,11 +1,22 @@
+//! The records of a site's log, and commit events.
 ghost use Rattle.std.specs.Prelude.{◌≡◌, ℕ, List, IfOk};
-ghost use Rattle.helios_model.specs.declared.ids.TxnId.{TxnId};
-ghost use Rattle.helios_model.specs.declared.record.Record.{Record};
+ghost use Rattle.helios_model.specs.declared.records.Record.{Record};
+ghost use Rattle.helios_model.specs.declared.records.CommitEvent.{CommitEvent};
 
-use crate::ids::TxnId;
-use crate::record::Record;
-use std::alloc::AllocError;
+use crate::ids::{Time, TxnId};
+use crate::transactions::Prepare;
 use std::marker::Model;
+
+/// One record of a site's log.
+#[derive(Clone, Debug, Drop)]
+pub enum Record {
+    /// A site took this transaction.
+    Prepare(Prepare),
+    /// The site of this transaction committed it, at this time.
+    Commit { id: TxnId, time: Time },
+    /// The site of this transaction aborted it, at this time, since it conflicts with the cause.
+    Abort { id: TxnId, time: Time, cause: TxnId },
+}
 
 /// Records of a log, in its order.
 #[derive(Clone, Debug, Drop)]
@@ -39,40 +50,41 @@ impl Records {
     }
 }
 
-/// Names of transactions.
+/// A transaction that committed, and the time of its Commit.
 #[derive(Clone, Debug, Drop)]
-pub struct TxnIds {
-    items: Vec<TxnId>,
+pub struct CommitEvent {
+    pub prepare: Prepare,
+    pub time: Time,
 }
 
-impl Model for TxnIds {
-    ghost Value = { List TxnId };
+/// Transactions that committed, in the order of their commit events.
+#[derive(Clone, Debug, Drop)]
+pub struct Commits {
+    items: Vec<CommitEvent>,
+}
+
+impl Model for Commits {
+    ghost Value = { List CommitEvent };
 
     ghost view = { λ l. l.items.items };
 }
 
-impl TxnIds {
-    pub fn new(items: Vec<TxnId>) -> TxnIds
+impl Commits {
+    pub fn new(items: Vec<CommitEvent>) -> Commits
         ensures { result ≡ items.items }
     {
-        TxnIds { items }
+        Commits { items }
     }
 
-    pub fn items(&self) -> &[TxnId]
+    pub fn items(&self) -> &[CommitEvent]
         ensures { result.now ≡ self.now }
     {
         self.items.as_slice()
     }
 
-    pub fn into_items(self) -> Vec<TxnId>
+    pub fn into_items(self) -> Vec<CommitEvent>
         ensures { result.items ≡ self }
     {
         self.items
-    }
-
-    pub fn copy(&self) -> Result<TxnIds, AllocError>
-        ensures { IfOk result (λ copied. copied ≡ self.now) }
-    {
-        self.clone()
     }
 }

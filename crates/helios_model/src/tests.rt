@@ -1,15 +1,8 @@
 // Each copy is equal to what it was made from, with ample memory; conflicts are the same from both sides.
-use crate::batches::Replies;
-use crate::conflicts::conflicts;
-use crate::ids::{SiteId, Time, TxnId, Version};
-use crate::item_lists::{Keys, Puts, Reads, Writes};
-use crate::items::{PutItem, ReadItem, WriteItem};
-use crate::keys::{Key, Val};
-use crate::names::{Name, Names};
-use crate::numbers::{Bytes, Places, Times};
-use crate::records::TxnIds;
-use crate::reply::Reply;
-use crate::transaction::{Ask, Prepare};
+use crate::{
+    Ask, Bytes, Key, Keys, Name, Names, Places, Prepare, PutItem, Puts, ReadItem, Reads, Replies,
+    Reply, SiteId, Time, Times, TxnId, TxnIds, Val, Version, WriteItem, Writes, conflicts,
+};
 use std::alloc::{AllocError, Global};
 use std::test::Fail;
 

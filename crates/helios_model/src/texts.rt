@@ -1,5 +1,5 @@
 ghost use Rattle.std.specs.Prelude.{Some};
-ghost use Rattle.helios_model.specs.Texts.{id_text, version_text};
+ghost use Rattle.helios_model.specs.Ids.{id_text, version_text};
 
 use crate::ids::{TxnId, Version};
 use std::fmt;

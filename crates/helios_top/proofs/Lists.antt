@@ -4,7 +4,7 @@ use Rattle.std.proofs.lemmas.List.{drop_more, drop_all}
 use Rattle.serde_json.specs.Data.{Data}
 use Rattle.serde_json.specs.declared.value.Value.{Value}
 use Rattle.serde_json.specs.View.{view, items_view}
-use Rattle.helios_model.specs.declared.items.PutItem.{PutItem}
+use Rattle.helios_model.specs.declared.transactions.PutItem.{PutItem}
 use Rattle.schedule_replay.specs.declared.reads.PlannedRead.{PlannedRead}
 use Rattle.schedule_replay.specs.declared.steps.Step.{Step}
 use Rattle.helios_top.specs.declared.json.Unread.{Unread}

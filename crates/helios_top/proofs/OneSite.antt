@@ -1,8 +1,9 @@
 -- The plan of one site keeps the limits of a plan, and is accepted.
 use Rattle.std.proofs.Common.{◌≡◌, ℕ, ◌<◌, ◌≤◌, [], ◌∷◌, refl, arith}
 use Rattle.std.proofs.lemmas.List.Elements.{All-cons, All-nil}
-use Rattle.helios_model.specs.Limits.{IsName, IsNameByte, longest_trip, greatest_latency}
-use Rattle.helios_model.specs.Setting.{IsPlan, IsMatrix, IsAccepted, trip_at}
+use Rattle.helios_model.specs.Texts.{IsName, IsNameByte}
+use Rattle.helios_model.specs.Limits.{longest_trip, greatest_latency}
+use Rattle.helios_model.specs.Plans.{IsPlan, IsMatrix, IsAccepted, trip_at}
 use Rattle.helios_top.specs.Reading.{one_site}
 
 is_name : IsName (65 ∷ [])

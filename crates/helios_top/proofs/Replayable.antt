@@ -9,10 +9,10 @@ use Rattle.serde_json.specs.Find.{as_array, as_str, get}
 use Rattle.helios_model.specs.declared.ids.TxnId.{TxnId}
 use Rattle.helios_model.specs.declared.ids.Version.{Version}
 use Rattle.helios_model.specs.declared.ids.Version.TheVariants.{Initial, Of}
-use Rattle.helios_model.specs.declared.items.PutItem.{PutItem}
-use Rattle.helios_model.specs.Distinct.{all_differ}
+use Rattle.helios_model.specs.declared.transactions.PutItem.{PutItem}
+use Rattle.helios_model.specs.Texts.{all_differ}
 use Rattle.helios_model.specs.Limits.{last_time, most_items, most_sites}
-use Rattle.helios_model.specs.Setting.{Setting}
+use Rattle.helios_model.specs.Plans.{PlanData}
 use Rattle.schedule_replay.specs.declared.inputs.Planned.{Planned}
 use Rattle.schedule_replay.specs.declared.inputs.Planned.TheVariants.{Request}
 use Rattle.schedule_replay.specs.declared.reads.PlannedRead.{PlannedRead}
@@ -197,7 +197,7 @@ steps_limits items steps e =
       each = each_of_all step_at (IsPlannedStep one_site) step_limits items found.0 found.1.0;
     })
 
-plan_is_one_site : (d : Data) (plan : Setting) → plan_at d ≡ Some plan → one_site ≡ plan
+plan_is_one_site : (d : Data) (plan : PlanData) → plan_at d ≡ Some plan → one_site ≡ plan
 unfolding plan_at
 plan_is_one_site d plan e = (guard_some (is_one_site_plan d) one_site plan e).1
 
@@ -206,7 +206,7 @@ unfolding schedule_at
 schedule_limits d s e =
     let said_steps = option_and_then steps_of (option_and_then as_array (get (codes "steps") d)) in
     let plan = bind_some (option_and_then plan_at (get (codes "plan") d))
-    (λ (p : Setting). option_and_then (λ (ss : List Step). Some (record { plan = p; steps = ss })) said_steps) s e in
+    (λ (p : PlanData). option_and_then (λ (ss : List Step). Some (record { plan = p; steps = ss })) said_steps) s e in
     let steps = bind_some said_steps (λ (ss : List Step). Some (record { plan = plan.0; steps = ss })) s plan.1.1 in
     let in_plan = bind_some (get (codes "plan") d) plan_at plan.0 plan.1.0 in
     let in_steps = bind_some (option_and_then as_array (get (codes "steps") d)) steps_of steps.0 steps.1.0 in
@@ -215,7 +215,7 @@ schedule_limits d s e =
     let made : Schedule = record { plan = plan.0; steps = steps.0 } in
     let same : made ≡ s = some_injective made s steps.1.1 in
     let at_one_site : IsReplayable one_site steps.0 = record { accepted = one_site_is_accepted; few = limits.few; each = limits.each } in
-    subst (λ (schedule : Schedule). IsReplayable schedule.plan schedule.steps) same (subst (λ (p : Setting). IsReplayable p steps.0) is at_one_site)
+    subst (λ (schedule : Schedule). IsReplayable schedule.plan schedule.steps) same (subst (λ (p : PlanData). IsReplayable p steps.0) is at_one_site)
 
 pub schedule_is_replayable : (text : List ℕ) (s : Schedule) → schedule_of text ≡ Some s → IsReplayable s.plan s.steps
 unfolding schedule_of

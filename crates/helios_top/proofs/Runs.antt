@@ -5,9 +5,9 @@ use Rattle.commit_offsets.specs.declared.refusal.PlanRefusal.{PlanRefusal}
 use Rattle.commit_offsets.specs.Reading.{plan_of_text}
 use Rattle.rtt_matrix.specs.declared.refusal.MatrixRefusal.{MatrixRefusal}
 use Rattle.rtt_matrix.specs.Reading.{matrix_of_text}
-use Rattle.helios_model.specs.declared.plan.Certificate.{Certificate}
+use Rattle.helios_model.specs.declared.plans.Certificate.{Certificate}
 use Rattle.helios_model.specs.Laws.Safe.{IsSafe}
-use Rattle.helios_model.specs.Setting.{Distances, Setting}
+use Rattle.helios_model.specs.Plans.{MatrixData, PlanData}
 use Rattle.outside_io.specs.Causes.{Rose}
 use Rattle.outside_io.specs.Whole.{AppendsPrefix, IsOverLimit, IsWholeInput, TakesAtMost}
 use Rattle.outside_io.proofs.Reading.{takes_none}
@@ -161,16 +161,16 @@ replay_prints : (said : Option Schedule) (answer : Answer) → IsReplayAnswer sa
 replay_prints None answer e nine = let is : answer_status answer ≡ 5 = ap answer_status e in absurd (omega arith)
 replay_prints (Some schedule) answer h nine = let is : answer_status answer ≡ 0 = ap answer_status h.printed in absurd (omega arith)
 
-check_refuses : (said : Result (Setting × Certificate) PlanRefusal) (refusal : Refusal) → IsCheckAnswer said (Refused refusal) → IsErr said
+check_refuses : (said : Result (PlanData × Certificate) PlanRefusal) (refusal : Refusal) → IsCheckAnswer said (Refused refusal) → IsErr said
 check_refuses (Ok read) refusal h = let e = h.1.1 in cc
 check_refuses (Err reason) refusal e = refl
 
-check_accepts : (said : Result (Setting × Certificate) PlanRefusal) (answer : Answer) → IsCheckAnswer said answer → IsDone (answer_status answer) → IsOk said
+check_accepts : (said : Result (PlanData × Certificate) PlanRefusal) (answer : Answer) → IsCheckAnswer said answer → IsDone (answer_status answer) → IsOk said
 check_accepts (Ok read) answer h done = refl
 check_accepts (Err reason) answer e done = let is : answer_status answer ≡ 5 = ap answer_status e in elim done [ inl zero ↦ absurd (omega arith) | inr nine ↦ absurd (omega arith) ]
 
 -- `check` wrote the verdict on the plan
-check_wrote : (taken taken' : Option (List ℕ)) (status : ℕ) (said : Result (Setting × Certificate) PlanRefusal) (answer : Answer) → IsCheckAnswer said answer
+check_wrote : (taken taken' : Option (List ℕ)) (status : ℕ) (said : Result (PlanData × Certificate) PlanRefusal) (answer : Answer) → IsCheckAnswer said answer
     → IsDone (answer_status answer) → status ≡ answer_status answer → Appends taken taken' (answer_text answer)
     → IsOkAnd said (λ read. WroteVerdict taken taken' status read.0 read.1.pair)
 check_wrote taken taken' status (Ok read) answer h done due wrote = record {
@@ -182,20 +182,20 @@ check_wrote taken taken' status (Ok read) answer h done due wrote = record {
 check_wrote taken taken' status (Err reason) answer e done due wrote =
     let is : answer_status answer ≡ 5 = ap answer_status e in elim done [ inl zero ↦ absurd (omega arith) | inr nine ↦ absurd (omega arith) ]
 
-plan_refuses : (said : Result Distances MatrixRefusal) (refusal : Refusal) → IsPlanAnswer said (Refused refusal) → IsErr said
+plan_refuses : (said : Result MatrixData MatrixRefusal) (refusal : Refusal) → IsPlanAnswer said (Refused refusal) → IsErr said
 plan_refuses (Ok matrix) refusal h = let e = h.printed in cc
 plan_refuses (Err reason) refusal e = refl
 
-plan_accepts : (said : Result Distances MatrixRefusal) (answer : Answer) → IsPlanAnswer said answer → IsDone (answer_status answer) → IsOk said
+plan_accepts : (said : Result MatrixData MatrixRefusal) (answer : Answer) → IsPlanAnswer said answer → IsDone (answer_status answer) → IsOk said
 plan_accepts (Ok matrix) answer h done = refl
 plan_accepts (Err reason) answer e done = let is : answer_status answer ≡ 5 = ap answer_status e in elim done [ inl zero ↦ absurd (omega arith) | inr nine ↦ absurd (omega arith) ]
 
-plan_prints : (said : Result Distances MatrixRefusal) (answer : Answer) → IsPlanAnswer said answer → answer_status answer ≢ 9
+plan_prints : (said : Result MatrixData MatrixRefusal) (answer : Answer) → IsPlanAnswer said answer → answer_status answer ≢ 9
 plan_prints (Ok matrix) answer h nine = let is : answer_status answer ≡ 0 = ap answer_status h.printed in absurd (omega arith)
 plan_prints (Err reason) answer e nine = let is : answer_status answer ≡ 5 = ap answer_status e in absurd (omega arith)
 
 -- `plan` wrote the text of an optimal plan of the matrix
-plan_wrote : (taken taken' : Option (List ℕ)) (said : Result Distances MatrixRefusal) (answer : Answer) → IsPlanAnswer said answer → IsDone (answer_status answer)
+plan_wrote : (taken taken' : Option (List ℕ)) (said : Result MatrixData MatrixRefusal) (answer : Answer) → IsPlanAnswer said answer → IsDone (answer_status answer)
     → Appends taken taken' (answer_text answer) → IsOkAnd said (λ matrix. WrotePlan taken taken' matrix)
 plan_wrote taken taken' (Ok matrix) answer h done wrote = record {
   plan = h.plan;
@@ -217,7 +217,7 @@ only_check Check bytes answer h nine = refl
 only_check Plan bytes answer h nine = absurd (plan_prints (matrix_of_text bytes) answer h nine)
 
 -- the verdict of status 0 is that the plan is optimal
-verdict_optimal : (taken taken' : Option (List ℕ)) (plan : Setting) (pair : List ℕ) (verdict : Verdict) → verdict_status verdict ≡ 0 → IsVerdict plan pair verdict
+verdict_optimal : (taken taken' : Option (List ℕ)) (plan : PlanData) (pair : List ℕ) (verdict : Verdict) → verdict_status verdict ≡ 0 → IsVerdict plan pair verdict
     → Appends taken taken' (line (verdict_text verdict)) → WroteOptimal taken taken' plan pair
 verdict_optimal taken taken' plan pair (verdicts.Optimal total) zero h wrote = record {
   accepted = h.says.0;
@@ -229,7 +229,7 @@ verdict_optimal taken taken' plan pair (verdicts.Short i j) zero h wrote = absur
 verdict_optimal taken taken' plan pair (verdicts.NoPairing i) zero h wrote = absurd (omega arith)
 verdict_optimal taken taken' plan pair (verdicts.ValueDiffers given value) zero h wrote = absurd (omega arith)
 
-read_optimal : (taken taken' : Option (List ℕ)) (status : ℕ) (said : Result (Setting × Certificate) PlanRefusal) → status ≡ 0
+read_optimal : (taken taken' : Option (List ℕ)) (status : ℕ) (said : Result (PlanData × Certificate) PlanRefusal) → status ≡ 0
     → IsOkAnd said (λ read. WroteVerdict taken taken' status read.0 read.1.pair) → IsOkAnd said (λ read. WroteOptimal taken taken' read.0 read.1.pair)
 read_optimal taken taken' status (Ok read) zero h = verdict_optimal taken taken' read.0 read.1.pair h.verdict (sym h.due ∙ zero) h.is_verdict h.written
 read_optimal taken taken' status (Err reason) zero h = absurd h

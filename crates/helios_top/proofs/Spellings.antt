@@ -9,7 +9,7 @@ use Rattle.std.proofs.lemmas.Bool.{and_from, and_parts, eq-eqb, eqb-true, false_
 use Rattle.std.proofs.lemmas.Bool.Decides.{Decides-by_and}
 use Rattle.std.proofs.lemmas.List.{drop_all}
 use Rattle.std.proofs.lemmas.Str.Parse.{IsNumeralModel, numerals_by_fold, parse_digits}
-use Rattle.helios_model.specs.Limits.{IsKey, IsKeyByte}
+use Rattle.helios_model.specs.Texts.{IsKey, IsKeyByte}
 use Rattle.helios_top.specs.Spelling.{has_plain_front, is_plain, number_after, number_of, id_from, id_of, is_at, is_key, is_key_byte, key_of}
 
 own : IsNumeralModel (λ ds. list_all is_ascii_digit ds ≡ true) (number_after 0)

@@ -1,9 +1,8 @@
 -- What each command answers to its whole input.
 use Rattle.std.specs.Prelude.{◌≡◌, ℕ, List, Option, Some, None, Result, Ok, Err}
-use Rattle.helios_model.specs.declared.plan.Certificate.{Certificate}
-use Rattle.helios_model.specs.Optimal.{IsOptimal}
-use Rattle.helios_model.specs.Certificate.{IsCertificate}
-use Rattle.helios_model.specs.Setting.{Distances, Setting, IsAccepted}
+use Rattle.helios_model.specs.declared.plans.Certificate.{Certificate}
+use Rattle.helios_model.specs.Optimal.{IsOptimal, IsCertificate}
+use Rattle.helios_model.specs.Plans.{MatrixData, PlanData, IsAccepted}
 use Rattle.commit_offsets.specs.declared.refusal.PlanRefusal.{PlanRefusal}
 use Rattle.commit_offsets.specs.Reading.{plan_of_text}
 use Rattle.commit_offsets.specs.Printing.{plan_text}
@@ -42,25 +41,25 @@ IsReplayAnswer None answer = answer ≡ Refused Unbuilt
 IsReplayAnswer (Some schedule) answer = IsReported schedule answer
 
 -- a plan that is called optimal is optimal
-abbrev pub IsProved : Setting → Verdict → Type 0
+abbrev pub IsProved : PlanData → Verdict → Type 0
 IsProved plan (verdicts.Optimal total) = IsOptimal plan
 IsProved plan (verdicts.Short i j) = Unit {0}
 IsProved plan (verdicts.NoPairing i) = Unit {0}
 IsProved plan (verdicts.ValueDiffers given value) = Unit {0}
 
 -- the verdict on a plan and its pairing
-pub record IsVerdict (plan : Setting) (pair : List ℕ) (verdict : Verdict) : Type 0 where
+pub record IsVerdict (plan : PlanData) (pair : List ℕ) (verdict : Verdict) : Type 0 where
   pub says : Says plan pair verdict
   pub proved : IsProved plan verdict
 
 -- `check` answers with the refusal of the text, or with the verdict on the plan that it says
-abbrev pub IsCheckAnswer : Result (Setting × Certificate) PlanRefusal → Answer → Type 0
+abbrev pub IsCheckAnswer : Result (PlanData × Certificate) PlanRefusal → Answer → Type 0
 IsCheckAnswer (Err refusal) answer = answer ≡ Refused (OfPlan refusal)
 IsCheckAnswer (Ok read) answer = (verdict : Verdict) × (IsVerdict read.0 read.1.pair verdict × (answer ≡ Judged verdict))
 
 -- the text of an accepted plan over the matrix is printed, with a pairing that shows that no such plan has a smaller average
-pub record IsPlanned (matrix : Distances) (answer : Answer) : Type 0 where
-  pub plan : Setting
+pub record IsPlanned (matrix : MatrixData) (answer : Answer) : Type 0 where
+  pub plan : PlanData
   pub pair : List ℕ
   pub names : plan.names ≡ matrix.names
   pub trips : plan.trips ≡ matrix.trips
@@ -70,7 +69,7 @@ pub record IsPlanned (matrix : Distances) (answer : Answer) : Type 0 where
   pub printed : answer ≡ Printed (plan_text plan pair)
 
 -- `plan` answers with the refusal of the text, or with an optimal plan of the matrix that it says
-abbrev pub IsPlanAnswer : Result Distances MatrixRefusal → Answer → Type 0
+abbrev pub IsPlanAnswer : Result MatrixData MatrixRefusal → Answer → Type 0
 IsPlanAnswer (Err refusal) answer = answer ≡ Refused (OfMatrix refusal)
 IsPlanAnswer (Ok matrix) answer = IsPlanned matrix answer
 

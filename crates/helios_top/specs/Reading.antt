@@ -2,7 +2,7 @@
 use Rattle.std.specs.Prelude.{ℕ, Bool, false, ◌&&◌, ◌==◌, ℤ, pos, negsuc, List, [], ◌∷◌, Option, Some, None, option_and_then, codes, if◌then◌else◌}
 use Rattle.serde_json.specs.Data.{Data}
 use Rattle.serde_json.specs.Find.{as_array, as_i64, as_number, get}
-use Rattle.helios_model.specs.Setting.{Setting}
+use Rattle.helios_model.specs.Plans.{PlanData}
 use Rattle.schedule_replay.specs.declared.schedule.Schedule.{Schedule}
 use Rattle.helios_top.specs.Stepping.{steps_of}
 use Rattle.json_text.specs.Arrays.{whole_number}
@@ -40,11 +40,11 @@ is_one_site_plan d =
     && is_number 1 (get (codes "version") d)
 
 -- the plan of the one site `A`, whose round trip and latency are 0
-abbrev pub one_site : Setting
+abbrev pub one_site : PlanData
 one_site = record { names = codes "A" ∷ []; trips = 0 ∷ []; latencies = 0 ∷ [] }
 
 -- the plan that a value says: no other is built
-unfoldable pub plan_at : Data → Option Setting
+unfoldable pub plan_at : Data → Option PlanData
 plan_at d = if is_one_site_plan d then Some one_site else None
 
 -- the schedule that a value says

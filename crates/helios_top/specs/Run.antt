@@ -4,9 +4,8 @@ use Rattle.std.specs.Io.KnownBytes.{Appends}
 use Rattle.commit_offsets.specs.Printing.{plan_text}
 use Rattle.commit_offsets.specs.Reading.{plan_of_text}
 use Rattle.rtt_matrix.specs.Reading.{matrix_of_text}
-use Rattle.helios_model.specs.Certificate.{IsCertificate}
-use Rattle.helios_model.specs.Optimal.{IsOptimal}
-use Rattle.helios_model.specs.Setting.{Distances, Setting, IsAccepted as IsAcceptedPlan}
+use Rattle.helios_model.specs.Optimal.{IsCertificate, IsOptimal}
+use Rattle.helios_model.specs.Plans.{MatrixData, PlanData, IsAccepted as IsAcceptedPlan}
 use Rattle.outside_io.specs.Causes.{Rose}
 use Rattle.outside_io.specs.Whole.{AppendsPrefix, IsOverLimit, IsWholeInput, TakesAtMost}
 use Rattle.plan_certificate.specs.declared.verdict.Verdict.{Verdict}
@@ -120,22 +119,22 @@ abbrev pub IsUnfailed : ℕ → Type 0
 IsUnfailed status = IsDone status ⊎ (status ≡ 1) ⊎ (status ≡ 5)
 
 -- the line of a verdict on the plan was written, with its status
-pub record WroteVerdict (taken taken' : Option (List ℕ)) (status : ℕ) (plan : Setting) (pair : List ℕ) : Type 0 where
+pub record WroteVerdict (taken taken' : Option (List ℕ)) (status : ℕ) (plan : PlanData) (pair : List ℕ) : Type 0 where
   pub verdict : Verdict
   pub is_verdict : IsVerdict plan pair verdict
   pub due : status ≡ verdict_status verdict
   pub written : Appends taken taken' (line (verdict_text verdict))
 
 -- the plan is accepted, its pairing proves it optimal, and the line that says so with its total was written
-pub record WroteOptimal (taken taken' : Option (List ℕ)) (plan : Setting) (pair : List ℕ) : Type 0 where
+pub record WroteOptimal (taken taken' : Option (List ℕ)) (plan : PlanData) (pair : List ℕ) : Type 0 where
   pub accepted : IsAcceptedPlan plan
   pub certificate : IsCertificate plan pair
   pub optimal : IsOptimal plan
   pub written : Appends taken taken' (line (codes "optimal " ++ decimal (sum plan.latencies)))
 
 -- an accepted plan over the matrix, with a pairing that shows that no such plan has a smaller average, was written as its text
-pub record WrotePlan (taken taken' : Option (List ℕ)) (matrix : Distances) : Type 0 where
-  pub plan : Setting
+pub record WrotePlan (taken taken' : Option (List ℕ)) (matrix : MatrixData) : Type 0 where
+  pub plan : PlanData
   pub pair : List ℕ
   pub names : plan.names ≡ matrix.names
   pub trips : plan.trips ≡ matrix.trips

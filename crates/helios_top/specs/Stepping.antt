@@ -2,9 +2,9 @@
 use Rattle.std.specs.Prelude.{ℕ, ◌&&◌, ◌||◌, ◌==◌, Bool, List, [], ◌∷◌, length, Option, Some, None, is_some, option_map, option_and_then, nat_le, if◌then◌else◌, codes}
 use Rattle.serde_json.specs.Data.{Data, Items, item, no_items}
 use Rattle.serde_json.specs.Find.{as_array, get}
-use Rattle.helios_model.specs.Distinct.{all_differ}
+use Rattle.helios_model.specs.Texts.{all_differ}
 use Rattle.helios_model.specs.Limits.{most_items}
-use Rattle.helios_model.specs.declared.items.PutItem.{PutItem}
+use Rattle.helios_model.specs.declared.transactions.PutItem.{PutItem}
 use Rattle.schedule_replay.specs.declared.reads.PlannedRead.{PlannedRead}
 use Rattle.schedule_replay.specs.declared.reads.PlannedVersion.TheVariants.{At}
 use Rattle.schedule_replay.specs.declared.inputs.Planned.{Planned}

@@ -2,7 +2,7 @@ ghost use Rattle.std.specs.Prelude.{◌≡◌, Some, IfOk, string_bytes};
 ghost use Rattle.helios_top.specs.Ending.{answer_status, answer_text, refusal_text, status_of, text_of, verdict_status, verdict_text};
 
 use commit_offsets::PlanRefusal;
-use helios_model::numbers::Bytes;
+use helios_model::Bytes;
 use plan_certificate::Verdict;
 use rtt_matrix::MatrixRefusal;
 use std::alloc::{AllocError, Global};

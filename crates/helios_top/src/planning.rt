@@ -4,7 +4,7 @@ ghost use Rattle.helios_top.specs.Answer.{IsPlanAnswer, IsPlanned};
 
 use crate::{Answer, Refusal};
 use commit_offsets::print_plan;
-use helios_model::plan::Matrix;
+use helios_model::Matrix;
 use plan_certificate::plan_of;
 use rtt_matrix::{MatrixRefusal, read_matrix};
 use std::alloc::{AllocError, Global};

@@ -8,9 +8,7 @@ ghost use Rattle.helios_top.specs.Stepping.{steps_of};
 
 use crate::json::{Unread, is_text, only};
 use crate::steps::steps_from;
-use helios_model::names::{Name, Names};
-use helios_model::numbers::Times;
-use helios_model::plan::Plan;
+use helios_model::{Name, Names, Plan, Times};
 use json_text::value_of;
 use schedule_replay::schedule::Schedule;
 use schedule_replay::step_lists::StepList;

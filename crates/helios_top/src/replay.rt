@@ -7,7 +7,7 @@ ghost use Rattle.helios_top.specs.Reading.{schedule_of};
 use crate::json::Unread;
 use crate::reading::read_schedule;
 use crate::{Answer, Refusal};
-use helios_model::numbers::Bytes;
+use helios_model::Bytes;
 use schedule_replay::replay::replay;
 use schedule_replay::schedule::Schedule;
 use std::alloc::{AllocError, Global};

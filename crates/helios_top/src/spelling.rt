@@ -8,9 +8,7 @@ ghost use Rattle.helios_top.specs.Json.{Gives};
 ghost use Rattle.helios_top.specs.Spelling.{has_plain_front, id_from, id_of, is_plain, key_at, key_of, number_of, stored_at, stored_of, version_at, version_of};
 
 use crate::json::Unread;
-use helios_model::ids::{SiteId, Time, TxnId, Version};
-use helios_model::keys::{Key, Val};
-use helios_model::numbers::Bytes;
+use helios_model::{Bytes, Key, SiteId, Time, TxnId, Val, Version};
 use serde_json::Value;
 use std::alloc::Global;
 

@@ -2,18 +2,14 @@
 ghost use Rattle.std.specs.Prelude.{◌≡◌, Option, is_some, option_and_then, option_map};
 ghost use Rattle.std.specs.List.{list_any};
 ghost use Rattle.serde_json.specs.View.{items_view, view};
-ghost use Rattle.helios_model.specs.Conflict.{same_key};
-ghost use Rattle.helios_model.specs.Distinct.{all_differ};
+ghost use Rattle.helios_model.specs.Texts.{same_text, all_differ};
 ghost use Rattle.helios_top.specs.Json.{Gives};
 ghost use Rattle.json_text.specs.Arrays.{each_of};
 ghost use Rattle.helios_top.specs.Stepping.{asked_at, batch_at, is_other_input, is_other_step, put_at, put_of, puts_of, read_at, read_of, reads_of, request_at, site_of, step_at, steps_of, within_puts, within_reads, within_steps};
 
 use crate::json::{Unread, only};
 use crate::spelling::{key_in, stored_in, version_in};
-use helios_model::ids::SiteId;
-use helios_model::item_lists::Puts;
-use helios_model::items::PutItem;
-use helios_model::keys::Key;
+use helios_model::{Key, PutItem, Puts, SiteId};
 use schedule_replay::input_lists::PlannedInputs;
 use schedule_replay::inputs::Planned;
 use schedule_replay::planned::PlannedReads;
@@ -67,7 +63,7 @@ fn each_read(alloc: Global, items: &[Value]) -> Result<PlannedReads, Unread>
 }
 
 fn is_read(reads: &[PlannedRead], key: &Key) -> bool
-    ensures { result ≡ list_any (λ r. same_key r.key key.now) reads.now }
+    ensures { result ≡ list_any (λ r. same_text r.key key.now) reads.now }
 {
     reads.iter().any(|r| r.key == *key)
 }
@@ -136,7 +132,7 @@ fn each_put(alloc: Global, items: &[Value]) -> Result<Puts, Unread>
 }
 
 fn is_put(puts: &[PutItem], key: &Key) -> bool
-    ensures { result ≡ list_any (λ p. same_key p.key key.now) puts.now }
+    ensures { result ≡ list_any (λ p. same_text p.key key.now) puts.now }
 {
     puts.iter().any(|p| p.key == *key)
 }

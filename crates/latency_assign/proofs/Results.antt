@@ -10,7 +10,7 @@ use Rattle.std.proofs.lemmas.List.Elements.{All-get_or, All-from_get_or}
 use Rattle.std.proofs.lemmas.List.FromFn.{length-range_with_len, get_or-range_with_len, map-range_with_len_more}
 use Rattle.std.proofs.lemmas.List.Sorted.{IsPermutation-refl, Contains-permutation}
 use Rattle.helios_model.specs.Limits.{longest_trip}
-use Rattle.helios_model.specs.Setting.{Distances, IsMatrix}
+use Rattle.helios_model.specs.Plans.{MatrixData, IsMatrix}
 use Rattle.latency_assign.specs.Assignment.{count_of, distance, potential, IsInRange, IsAssignment}
 use Rattle.latency_assign.specs.Search.{IsFeasible, IsMatched}
 
@@ -23,7 +23,7 @@ pub one_number_more : (n : ℕ) → range_with_len 0 n ++ n ∷ [] ≡ range_wit
 one_number_more n = ap (λ xs. xs ++ n ∷ []) (sym (as_map 0 n)) ∙ sym (map-range_with_len_more (λ x. x) 0 n n (omega arith)) ∙ as_map 0 (n + 1)
 
 -- no round trip of a matrix is over the limit
-pub distance_bounded : (m : Distances) → IsMatrix m.names m.trips → (i j : ℕ) → distance m i j ≤ longest_trip
+pub distance_bounded : (m : MatrixData) → IsMatrix m.names m.trips → (i j : ℕ) → distance m i j ≤ longest_trip
 distance_bounded m limits i j = elim (cases_lt (i * count_of m + j) (length m.trips)) [
   | inl within ↦ All-get_or (λ x. x ≤ longest_trip) m.trips (i * count_of m + j) 0 within limits.short
   | inr past ↦ (let none : get_or m.trips (i * count_of m + j) 0 ≡ 0 = get_or_past m.trips (i * count_of m + j) 0 past in omega arith)
@@ -129,7 +129,7 @@ in_range xs small = All-from_get_or IsInRange (map pos xs) (pos 0) (λ i within.
     subst P (sym is) ((let least : pos 0 ≤ℤ pos (get_or xs i 0) = omega (arith, ints) in least), (let greatest : pos (get_or xs i 0) ≤ℤ pos longest_trip = omega (arith, ints) in greatest)))
 
 -- the potentials and the partners of the last state
-pub assigned : (m : Distances) (u w s v : List ℕ) → IsMatched (count_of m) (distance m) (count_of m) u w s → length v ≡ length s → ((q : ℕ) → q < length s → get_or v (get_or s q 0) 0 ≡ get_or w q 0) → IsAssignment m (record { u = map pos u; v = map pos v; s = s })
+pub assigned : (m : MatrixData) (u w s v : List ℕ) → IsMatched (count_of m) (distance m) (count_of m) u w s → length v ≡ length s → ((q : ℕ) → q < length s → get_or v (get_or s q 0) 0 ≡ get_or w q 0) → IsAssignment m (record { u = map pos u; v = map pos v; s = s })
 assigned m u w s v matched long placed =
     let n : ℕ = count_of m in
     let rows : length u ≡ n = matched.feasible.rows in
@@ -164,7 +164,7 @@ assigned m u w s v matched long placed =
     tight_whole : (t a b : ℕ) (x y : ℤ) → x ≡ pos a → y ≡ pos b → a + b ≡ t → (x +ℤ y) ≡ pos t
     tight_whole t a b x y x_is y_is h = omega (arith, ints)
 
-pub assigned_as : (m : Distances) (u w s v : List ℕ) (rows columns : List ℤ) (partners : List ℕ) → IsMatched (count_of m) (distance m) (count_of m) u w s → length v ≡ length s → ((q : ℕ) → q < length s → get_or v (get_or s q 0) 0 ≡ get_or w q 0) → rows ≡ map pos u → columns ≡ map pos v → partners ≡ s → IsAssignment m (record { u = rows; v = columns; s = partners })
+pub assigned_as : (m : MatrixData) (u w s v : List ℕ) (rows columns : List ℤ) (partners : List ℕ) → IsMatched (count_of m) (distance m) (count_of m) u w s → length v ≡ length s → ((q : ℕ) → q < length s → get_or v (get_or s q 0) 0 ≡ get_or w q 0) → rows ≡ map pos u → columns ≡ map pos v → partners ≡ s → IsAssignment m (record { u = rows; v = columns; s = partners })
 assigned_as m u w s v rows columns partners matched long placed rows_are columns_are partners_are =
     let A : List ℤ → Type 0 = λ x. IsAssignment m (record { u = x; v = columns; s = partners }) in
     let B : List ℤ → Type 0 = λ x. IsAssignment m (record { u = map pos u; v = x; s = partners }) in

@@ -3,18 +3,18 @@ use Rattle.std.specs.Prelude.{◌≡◌, ℕ, ◌<◌, ℤ, pos, ◌+ℤ◌, ◌
 use Rattle.std.specs.List.{range_with_len}
 use Rattle.std.specs.List.Sorted.{IsPermutation}
 use Rattle.helios_model.specs.Limits.{longest_trip}
-use Rattle.helios_model.specs.Setting.{Distances, trip_at}
+use Rattle.helios_model.specs.Plans.{MatrixData, trip_at}
 use Rattle.latency_assign.specs.declared.potentials.Potentials.{Potentials}
 
-abbrev pub count_of : Distances → ℕ
+abbrev pub count_of : MatrixData → ℕ
 count_of m = length m.names
 
 -- the numbers of the sites, in order
-abbrev pub sites_of : Distances → List ℕ
+abbrev pub sites_of : MatrixData → List ℕ
 sites_of m = range_with_len 0 (count_of m)
 
 -- the round trip between two sites, in microseconds
-abbrev pub distance : Distances → ℕ → ℕ → ℕ
+abbrev pub distance : MatrixData → ℕ → ℕ → ℕ
 distance m i j = trip_at (count_of m) m.trips i j
 
 abbrev pub potential : List ℤ → ℕ → ℤ
@@ -26,7 +26,7 @@ IsInRange p = (pos 0 ≤ℤ p) × (p ≤ℤ pos longest_trip)
 
 -- Each site has a partner of its own. The potentials of any two sites together reach their round trip, and those of a
 -- site and its partner are their round trip.
-pub record IsAssignment (m : Distances) (p : Potentials) : Type 0 where
+pub record IsAssignment (m : MatrixData) (p : Potentials) : Type 0 where
   pub rows : length p.u ≡ count_of m
   pub columns : length p.v ≡ count_of m
   pub permutation : IsPermutation (sites_of m) p.s

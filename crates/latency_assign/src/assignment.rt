@@ -6,8 +6,7 @@ ghost use Rattle.latency_assign.specs.Assignment.{IsAssignment};
 use crate::ints::Ints;
 use crate::matching::match_row;
 use crate::potentials::Potentials;
-use helios_model::numbers::Places;
-use helios_model::plan::Matrix;
+use helios_model::{Matrix, Places};
 use std::alloc::{AllocError, Global};
 
 const LONGEST_TRIP: u64 = 1_000_000_000;

@@ -3,8 +3,7 @@ ghost use Rattle.helios_model.specs.Limits.{longest_trip};
 ghost use Rattle.latency_assign.specs.Assignment.{count_of, distance};
 ghost use Rattle.latency_assign.specs.Search.{IsFeasible, IsNearest, IsExtended};
 
-use helios_model::ids::SiteId;
-use helios_model::plan::Matrix;
+use helios_model::{Matrix, SiteId};
 
 fn trip(m: &Matrix, row: usize, column: u8) -> u64
     requires row { row < count_of m.now }

@@ -4,7 +4,7 @@ ghost use Rattle.latency_assign.specs.Search.{IsMatched, IsTree, IsGrown};
 
 use crate::lacks::{extend, nearest};
 use crate::shifts::{lower, raise};
-use helios_model::plan::Matrix;
+use helios_model::Matrix;
 use std::alloc::{AllocError, Global};
 
 // Grows a tree from a row, by a column and its partner each turn, until a free column is tight with a row of it.

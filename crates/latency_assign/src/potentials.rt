@@ -1,5 +1,5 @@
 use crate::ints::Ints;
-use helios_model::numbers::Places;
+use helios_model::Places;
 
 /// Potentials of the sites as rows and as columns, in microseconds, and the number of each site's partner.
 #[derive(Debug, Drop)]

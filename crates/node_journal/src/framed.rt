@@ -1,7 +1,7 @@
 ghost use Rattle.std.specs.Prelude.{◌≡◌, ◌+◌, ◌≤◌, length, IfOk};
 ghost use Rattle.node_journal.specs.Frames.{IsSmall, frame_of, length_bytes};
 
-use helios_model::numbers::Bytes;
+use helios_model::Bytes;
 use std::alloc::AllocError;
 use std::marker::Model;
 

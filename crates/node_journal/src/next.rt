@@ -10,7 +10,7 @@ use crate::framed::PAYLOAD_LIMIT;
 use crate::head::{Head, read_head};
 use crate::{Found, Journal, JournalFault, Reading};
 use disk_store::Disk;
-use helios_model::numbers::Bytes;
+use helios_model::Bytes;
 use std::alloc::Global;
 
 impl Reading {

@@ -1,5 +1,5 @@
 use crate::Journal;
-use helios_model::numbers::Bytes;
+use helios_model::Bytes;
 use std::marker::Model;
 
 /// A journal that is being read, at the gate of its next frame.

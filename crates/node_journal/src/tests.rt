@@ -7,7 +7,7 @@ ghost use Rattle.node_journal.specs.Appending.{IsReady, end_of, is_kept};
 
 use super::*;
 use disk_store::{Disk, FileDisk, Keep, MemDisk, RecordDisk, Stop};
-use helios_model::numbers::Bytes;
+use helios_model::Bytes;
 use outside_io::Failed;
 use std::alloc::{AllocError, Global};
 use std::test::Fail;

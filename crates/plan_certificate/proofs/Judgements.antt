@@ -9,8 +9,8 @@ use Rattle.std.proofs.lemmas.List.FromFn.{get_or-range_with_len, length-range_wi
 use Rattle.std.proofs.lemmas.List.Sorted.{length_permutation}
 use Rattle.plan_certificate.proofs.Permutations.{apart_from_permutation, below_from_permutation}
 use Rattle.helios_model.proofs.FirstBelow.{find_first, find_none}
-use Rattle.helios_model.specs.Certificate.{IsCertificate, pair_value, sites_of}
-use Rattle.helios_model.specs.Setting.{Setting, IsAccepted, count_of, rtt, latency}
+use Rattle.helios_model.specs.Optimal.{IsCertificate, pair_value, sites_of}
+use Rattle.helios_model.specs.Plans.{PlanData, IsAccepted, count_of, rtt, latency}
 use Rattle.plan_certificate.specs.Judgement.{is_short, short_of, first_short_of, is_unpaired, weighed, paired, judged, verdict_of}
 use Rattle.plan_certificate.specs.Says.{Says}
 use Rattle.plan_certificate.specs.Verdict.{IsReached, IsRowReached, IsFirstShort, IsFirstShortInRow, IsUnpaired}
@@ -38,26 +38,26 @@ neither true c first second = cc
 neither false c first second = second
 
 -- where two sites reach their round trip, they aren't short
-not_short : (plan : Setting) (i j : ℕ) → (i < j → IsReached plan i j) → is_short plan i j ≡ false
+not_short : (plan : PlanData) (i j : ℕ) → (i < j → IsReached plan i j) → is_short plan i j ≡ false
 not_short plan i j reached = elim (cases_lt i j) [
   | inl later ↦ second_false (nat_lt i j) (nat_lt (latency plan i + latency plan j) (2 * rtt plan i j)) (le-ltb (latency plan i + latency plan j) (2 * rtt plan i j) (reached later))
   | inr past ↦ ap (λ b. b && nat_lt (latency plan i + latency plan j) (2 * rtt plan i j)) (le-ltb i j past)
 ]
 
-short_found : (plan : Setting) (i j : ℕ) → IsFirstShortInRow plan i j → short_of plan i ≡ Some j
+short_found : (plan : PlanData) (i j : ℕ) → IsFirstShortInRow plan i j → short_of plan i ≡ Some j
 short_found plan i j first = find_first (is_short plan i) (count_of plan) j first.within (both_true (nat_lt i j) (nat_lt (latency plan i + latency plan j) (2 * rtt plan i j)) (lt-ltb i j first.ordered) (lt-ltb (latency plan i + latency plan j) (2 * rtt plan i j) first.short)) (λ k before. not_short plan i k (λ later. first.reached k later before))
 
-none_short : (plan : Setting) (i : ℕ) → IsRowReached plan i (count_of plan) → short_of plan i ≡ None
+none_short : (plan : PlanData) (i : ℕ) → IsRowReached plan i (count_of plan) → short_of plan i ≡ None
 none_short plan i reached = find_none (is_short plan i) (count_of plan) (λ k low. not_short plan i k (λ later. reached k later low))
 
-pub first_short_found : (plan : Setting) (i j : ℕ) → IsFirstShort plan i j → first_short_of plan ≡ Some (i, j)
+pub first_short_found : (plan : PlanData) (i j : ℕ) → IsFirstShort plan i j → first_short_of plan ≡ Some (i, j)
 first_short_found plan i j first =
     let row : find (λ k. is_some (short_of plan k)) (sites_of plan) ≡ Some i =
     find_first (λ k. is_some (short_of plan k)) (count_of plan) i (let a : i < j = first.row.ordered in let b : j < count_of plan = first.row.within in omega arith)
     (ap is_some (short_found plan i j first.row)) (λ k before. ap is_some (none_short plan k (first.above k before))) in
     ap (option_and_then (λ k. option_map (λ m. (k, m)) (short_of plan k))) row ∙ ap (option_map (λ m. (i, m))) (short_found plan i j first.row)
 
-pub no_short_found : (plan : Setting) → IsAccepted plan → first_short_of plan ≡ None
+pub no_short_found : (plan : PlanData) → IsAccepted plan → first_short_of plan ≡ None
 no_short_found plan accepted =
     let none : find (λ k. is_some (short_of plan k)) (sites_of plan) ≡ None =
     find_none (λ k. is_some (short_of plan k)) (count_of plan) (λ k low. ap is_some (none_short plan k (λ j later within. accepted.reached k j low within (λ same. (omega arith))))) in
@@ -89,7 +89,7 @@ paired_test count pair place paired' = neither (nat_le count (get_or pair place 
     ap (repeats pair place) (place_is place k before) ∙ ne_eqb (get_or pair k 0) (get_or pair place 0) (λ same. paired' (inr (k, before, same))))))
 
 -- in a certificate each partner is a site, and that of no earlier one
-certificate_pairs : (plan : Setting) (pair : List ℕ) → IsCertificate plan pair → (k : ℕ) → k < count_of plan → IsUnpaired (count_of plan) pair k → ⊥
+certificate_pairs : (plan : PlanData) (pair : List ℕ) → IsCertificate plan pair → (k : ℕ) → k < count_of plan → IsUnpaired (count_of plan) pair k → ⊥
 certificate_pairs plan pair certificate k low unpaired =
     let long : length pair ≡ count_of plan = length_permutation (sites_of plan) pair certificate.pairing ∙ length-range_with_len 0 (count_of plan) in
     elim unpaired [
@@ -98,7 +98,7 @@ certificate_pairs plan pair certificate k low unpaired =
     ]
 
 -- the verdict that says what stands is the one that the plan and the pairing have
-pub verdict_is : (plan : Setting) (pair : List ℕ) (verdict : Verdict) → length pair ≡ count_of plan → Says plan pair verdict → verdict ≡ verdict_of plan pair
+pub verdict_is : (plan : PlanData) (pair : List ℕ) (verdict : Verdict) → length pair ≡ count_of plan → Says plan pair verdict → verdict ≡ verdict_of plan pair
 unfolding verdict_of
 verdict_is plan pair (verdicts.Short i j) long says = sym (ap (judged plan pair) (first_short_found plan i j says))
 verdict_is plan pair (verdicts.NoPairing i) long says = sym (

@@ -9,9 +9,8 @@ use Rattle.std.proofs.lemmas.Bool.{eqb-true, eqb-false}
 use Rattle.std.proofs.Math.Nat.{mul-zero}
 use lib.Dec.{eqb}
 use mathlib.Core.Bool.{true, false}
-use Rattle.helios_model.specs.Setting.{Setting, IsAccepted, count_of, rtt}
-use Rattle.helios_model.specs.Certificate.{IsCertificate}
-use Rattle.helios_model.specs.Optimal.{IsOptimal}
+use Rattle.helios_model.specs.Plans.{PlanData, IsAccepted, count_of, rtt}
+use Rattle.helios_model.specs.Optimal.{IsCertificate, IsOptimal}
 use Rattle.plan_certificate.proofs.Permutations.{below_from_permutation}
 use Rattle.plan_certificate.proofs.Sums.{sum_below, sum_below-le, sum_below-items}
 
@@ -55,7 +54,7 @@ pairing_bound trip n k pairs p long order zero_self low reach =
     omega arith
 
 -- an accepted plan with a certificate is optimal
-pub certificate_shows_optimal : (plan : Setting) (pair : List ℕ) → IsAccepted plan → IsCertificate plan pair → IsOptimal plan
+pub certificate_shows_optimal : (plan : PlanData) (pair : List ℕ) → IsAccepted plan → IsCertificate plan pair → IsOptimal plan
 certificate_shows_optimal plan pair accepted certificate k others some long reach =
     let n : ℕ = count_of plan in
     let low : (i : ℕ) → i < n → get_or pair i 0 < n = below_from_permutation n pair certificate.pairing in

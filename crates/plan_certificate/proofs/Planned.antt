@@ -7,10 +7,9 @@ use Rattle.std.proofs.lemmas.List.{length-map, get_or-map}
 use Rattle.std.proofs.lemmas.List.Elements.{All-get_or, All-from_get_or}
 use Rattle.std.proofs.lemmas.List.FromFn.{length-range_with_len}
 use Rattle.std.proofs.lemmas.List.Sorted.{length_permutation}
-use Rattle.helios_model.specs.Certificate.{IsCertificate, pair_value}
+use Rattle.helios_model.specs.Optimal.{IsCertificate, pair_value, IsOptimal}
 use Rattle.helios_model.specs.Limits.{longest_trip, greatest_latency}
-use Rattle.helios_model.specs.Optimal.{IsOptimal}
-use Rattle.helios_model.specs.Setting.{Distances, Setting, IsMatrix, IsPlan, IsAccepted, rtt}
+use Rattle.helios_model.specs.Plans.{MatrixData, PlanData, IsMatrix, IsPlan, IsAccepted, rtt}
 use Rattle.latency_assign.specs.Assignment.{count_of, distance, potential, IsInRange, IsAssignment}
 use Rattle.latency_assign.specs.declared.potentials.Potentials.{Potentials}
 use Rattle.plan_certificate.specs.Judgement.{verdict_of}
@@ -43,7 +42,7 @@ size_is (pos n) h = refl
 size_is (negsuc n) h = absurd (omega (arith, ints))
 
 -- sums of both potentials at each place are those of the sites
-pub are_sums : (m : Distances) (p : Potentials) (u v : List ℤ) (latencies : List ℕ) → IsAssignment m p → u ≡ p.u → v ≡ p.v → length latencies ≡ length u → ((i : ℕ) → i < length u → pos (get_or latencies i 0) ≡ (potential u i +ℤ potential v i)) → AreSums m p latencies
+pub are_sums : (m : MatrixData) (p : Potentials) (u v : List ℤ) (latencies : List ℕ) → IsAssignment m p → u ≡ p.u → v ≡ p.v → length latencies ≡ length u → ((i : ℕ) → i < length u → pos (get_or latencies i 0) ≡ (potential u i +ℤ potential v i)) → AreSums m p latencies
 are_sums m p u v latencies assigned rows columns size sums =
     let long : length u ≡ count_of m = ap length rows ∙ assigned.rows in
     record {
@@ -51,8 +50,8 @@ are_sums m p u v latencies assigned rows columns size sums =
       sums = λ i low. (sums i (omega arith) ∙ ap (λ xs. potential xs i +ℤ potential v i) rows ∙ ap (λ xs. potential p.u i +ℤ potential xs i) columns);
     }
 
-module _ (m : Distances) (p : Potentials) (latencies : List ℕ) (limits : IsMatrix m.names m.trips) (assigned : IsAssignment m p) (added : AreSums m p latencies) where
-  abbrev plan : Setting
+module _ (m : MatrixData) (p : Potentials) (latencies : List ℕ) (limits : IsMatrix m.names m.trips) (assigned : IsAssignment m p) (added : AreSums m p latencies) where
+  abbrev plan : PlanData
   plan = planned m latencies
 
   row : ℕ → ℕ

@@ -1,21 +1,21 @@
 -- The verdict on a plan and a pairing, as a function of them.
 use Rattle.std.specs.Prelude.{ℕ, ◌+◌, ◌*◌, ◌==◌, ◌&&◌, ◌||◌, Bool, nat_lt, nat_le, List, Option, Some, None, is_some, option_map, option_and_then, find, sum, slice_index, if◌then◌else◌}
 use Rattle.std.specs.List.{list_any, range_with_len}
-use Rattle.helios_model.specs.Certificate.{pair_value, sites_of}
-use Rattle.helios_model.specs.Setting.{Setting, count_of, rtt, latency}
+use Rattle.helios_model.specs.Optimal.{pair_value, sites_of}
+use Rattle.helios_model.specs.Plans.{PlanData, count_of, rtt, latency}
 use Rattle.plan_certificate.specs.declared.verdict.Verdict.{Verdict}
 use Rattle.plan_certificate.specs.declared.verdict.Verdict.TheVariants.{Optimal, Short, NoPairing, ValueDiffers}
 
 -- whether the second of two sites is the later one and they don't reach their round trip
-abbrev pub is_short : Setting → ℕ → ℕ → Bool
+abbrev pub is_short : PlanData → ℕ → ℕ → Bool
 is_short plan i j = nat_lt i j && nat_lt (latency plan i + latency plan j) (2 * rtt plan i j)
 
 -- the first later site that a site is short of
-abbrev pub short_of : Setting → ℕ → Option ℕ
+abbrev pub short_of : PlanData → ℕ → Option ℕ
 short_of plan i = find (is_short plan i) (sites_of plan)
 
 -- the first site that is short of a later one, and the first such
-abbrev pub first_short_of : Setting → Option (ℕ × ℕ)
+abbrev pub first_short_of : PlanData → Option (ℕ × ℕ)
 first_short_of plan = option_and_then (λ i. option_map (λ j. (i, j)) (short_of plan i)) (find (λ i. is_some (short_of plan i)) (sites_of plan))
 
 -- whether the partner at a place is no site, or is that of an earlier place
@@ -27,14 +27,14 @@ abbrev pub weighed : ℕ → ℕ → Verdict
 weighed given value = if given == value then Optimal given else ValueDiffers given value
 
 -- the verdict where no two sites are short
-abbrev pub paired : Setting → List ℕ → Option ℕ → Verdict
+abbrev pub paired : PlanData → List ℕ → Option ℕ → Verdict
 paired plan pair (Some place) = NoPairing place
 paired plan pair None = weighed (sum plan.latencies) (pair_value plan pair)
 
 -- the verdict, where the first short pair is known
-abbrev pub judged : Setting → List ℕ → Option (ℕ × ℕ) → Verdict
+abbrev pub judged : PlanData → List ℕ → Option (ℕ × ℕ) → Verdict
 judged plan pair (Some short) = Short short.0 short.1
 judged plan pair None = paired plan pair (find (is_unpaired (count_of plan) pair) (sites_of plan))
 
-unfoldable pub verdict_of : Setting → List ℕ → Verdict
+unfoldable pub verdict_of : PlanData → List ℕ → Verdict
 verdict_of plan pair = judged plan pair (first_short_of plan)

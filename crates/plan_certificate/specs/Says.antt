@@ -1,12 +1,12 @@
 -- What each verdict says of a plan and a pairing. No two of them hold together.
 use Rattle.std.specs.Prelude.{◌≡◌, ◌≢◌, ℕ, List, length, sum}
-use Rattle.helios_model.specs.Certificate.{IsCertificate, pair_value}
-use Rattle.helios_model.specs.Setting.{Setting, IsAccepted, count_of}
+use Rattle.helios_model.specs.Optimal.{IsCertificate, pair_value}
+use Rattle.helios_model.specs.Plans.{PlanData, IsAccepted, count_of}
 use Rattle.plan_certificate.specs.Verdict.{IsFirstShort, IsFirstUnpaired, ArePaired}
 use Rattle.plan_certificate.specs.declared.verdict.Verdict.{Verdict}
 use Rattle.plan_certificate.specs.declared.verdict.Verdict.TheVariants as verdicts
 
-abbrev pub Says : Setting → List ℕ → Verdict → Type 0
+abbrev pub Says : PlanData → List ℕ → Verdict → Type 0
 Says plan pair (verdicts.Short i j) = IsFirstShort plan i j
 Says plan pair (verdicts.NoPairing i) = IsAccepted plan × IsFirstUnpaired (count_of plan) pair i
 Says plan pair (verdicts.ValueDiffers given value) =

@@ -1,7 +1,6 @@
 ghost use Rattle.std.specs.Prelude.{◌≡◌, ℕ, ◌^◌, ◌<◌, length, All, sum};
-ghost use Rattle.helios_model.specs.Setting.{IsAccepted, count_of};
-ghost use Rattle.helios_model.specs.Certificate.{pair_value};
-ghost use Rattle.helios_model.specs.Optimal.{IsOptimal};
+ghost use Rattle.helios_model.specs.Plans.{IsAccepted, count_of};
+ghost use Rattle.helios_model.specs.Optimal.{pair_value, IsOptimal};
 ghost use Rattle.plan_certificate.specs.Judgement.{verdict_of};
 ghost use Rattle.plan_certificate.specs.Says.{Says};
 ghost use Rattle.plan_certificate.specs.Verdict.{ArePaired};
@@ -9,8 +8,7 @@ ghost use Rattle.plan_certificate.specs.Verdict.{ArePaired};
 use crate::pairing::first_unpaired;
 use crate::short::first_short;
 use crate::verdict::Verdict;
-use helios_model::ids::SiteId;
-use helios_model::plan::{Certificate, Plan};
+use helios_model::{Certificate, Plan, SiteId};
 
 /// The verdict on a plan and a certificate of as many sites.
 #[tactic(auto, using(crate::proofs::Judgements::verdict_is))]

@@ -1,14 +1,12 @@
 ghost use Rattle.std.specs.Prelude.{◌≡◌, ℕ, ◌<◌, ◌≤◌, pos, ◌+ℤ◌, All, IfOk, length, slice_index, sum};
-ghost use Rattle.helios_model.specs.Certificate.{IsCertificate};
-ghost use Rattle.helios_model.specs.Optimal.{IsOptimal};
-ghost use Rattle.helios_model.specs.Setting.{IsAccepted, IsPlan, count_of};
+ghost use Rattle.helios_model.specs.Optimal.{IsCertificate, IsOptimal};
+ghost use Rattle.helios_model.specs.Plans.{IsAccepted, IsPlan, count_of};
 ghost use Rattle.latency_assign.specs.Assignment.{IsAssignment, IsInRange, potential};
 ghost use Rattle.plan_certificate.specs.Judgement.{verdict_of};
 ghost use Rattle.plan_certificate.specs.Planning.{AreSums, planned};
 
 use crate::verdict::Verdict;
-use helios_model::numbers::Times;
-use helios_model::plan::{Certificate, Matrix, Plan};
+use helios_model::{Certificate, Matrix, Plan, Times};
 use latency_assign::assign;
 use latency_assign::potentials::Potentials;
 use std::alloc::{AllocError, Global};

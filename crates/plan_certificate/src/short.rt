@@ -1,10 +1,9 @@
 ghost use Rattle.std.specs.Prelude.{◌≡◌, ℕ, ◌+◌, ◌<◌, ◌≤◌, IfSome, IfNone, MatchOption};
-ghost use Rattle.helios_model.specs.Setting.{IsAccepted, count_of};
+ghost use Rattle.helios_model.specs.Plans.{IsAccepted, count_of};
 ghost use Rattle.plan_certificate.specs.Judgement.{first_short_of};
 ghost use Rattle.plan_certificate.specs.Verdict.{IsReached, IsFirstShort, IsFirstShortInRow, IsRowReached};
 
-use helios_model::ids::SiteId;
-use helios_model::plan::Plan;
+use helios_model::{Plan, SiteId};
 
 /// The first two sites, row by row, whose latencies together don't reach their round trip.
 #[tactic(auto, using(crate::proofs::Judgements::first_short_found, crate::proofs::Judgements::no_short_found))]

@@ -1,7 +1,5 @@
 use super::*;
-use helios_model::names::{Name, Names};
-use helios_model::numbers::Times;
-use helios_model::plan::Matrix;
+use helios_model::{Matrix, Name, Names, Times};
 use std::alloc::{AllocError, Global};
 use std::test::Fail;
 

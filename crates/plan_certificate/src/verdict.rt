@@ -1,4 +1,4 @@
-use helios_model::ids::SiteId;
+use helios_model::SiteId;
 
 /// The verdict on a plan and its certificate.
 #[derive(Clone, Copy, Debug, PartialEq, Eq)]

@@ -6,9 +6,9 @@ use Rattle.std.proofs.lemmas.Bool.{leb-true, ltb-false, eqb-true, lt-ltb, cases_
 use Rattle.std.proofs.lemmas.List.Elements.{All-from_get_or}
 use Rattle.std.proofs.lemmas.List.Folds.{list_any_none}
 use Rattle.std.proofs.lemmas.Nat.{mul-add-lt, div-mul-add, mod-mul-add}
-use Rattle.helios_model.specs.Distinct.{all_differ, same_text}
-use Rattle.helios_model.specs.Limits.{IsName, longest_trip, most_sites}
-use Rattle.helios_model.specs.Setting.{IsMatrix, trip_at}
+use Rattle.helios_model.specs.Texts.{all_differ, same_text, IsName}
+use Rattle.helios_model.specs.Limits.{longest_trip, most_sites}
+use Rattle.helios_model.specs.Plans.{IsMatrix, trip_at}
 use Rattle.json_text.specs.Names.{is_name}
 use Rattle.json_text.specs.Reading.{◌>>=◌, demand}
 use Rattle.rtt_matrix.proofs.FirstPlaces.{fails_below}

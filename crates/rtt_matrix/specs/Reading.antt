@@ -1,9 +1,9 @@
 -- The matrix that a text says, or the first rule that the text breaks.
 use Rattle.std.specs.Prelude.{◌≡◌, ℕ, ◌+◌, ◌*◌, ◌/◌, ◌%◌, ◌==◌, ◌&&◌, ◌||◌, Bool, not, nat_le, nat_lt, List, [], ◌++◌, length, take, Option, Some, None, option_and_then, Result, Ok, Err, find, slice_index, slice_index_or, codes, if◌then◌else◌}
 use Rattle.std.specs.List.{list_any, range_with_len}
-use Rattle.helios_model.specs.Distinct.{same_text}
+use Rattle.helios_model.specs.Texts.{same_text}
 use Rattle.helios_model.specs.Limits.{most_sites, longest_trip}
-use Rattle.helios_model.specs.Setting.{Distances, trip_at}
+use Rattle.helios_model.specs.Plans.{MatrixData, trip_at}
 use Rattle.json_text.specs.Arrays.{whole_number, array_of, row_of}
 use Rattle.json_text.specs.Names.{is_name}
 use Rattle.json_text.specs.Reading.{◌>>=◌, required, demand}
@@ -71,7 +71,7 @@ trips_checked n trips = do
   refused_at refusals.Diagonal (first_below (λ i. not (trip_at n trips i i == 0)) n)
 
 -- what a JSON value says as a matrix
-unfoldable pub matrix_at : Data → Result Distances MatrixRefusal
+unfoldable pub matrix_at : Data → Result MatrixData MatrixRefusal
 matrix_at d = do
   names ← names_at d
   rows ← rows_at d
@@ -81,5 +81,5 @@ matrix_at d = do
   Ok (record { names = names; trips = trips })
 
 -- what a text says as a matrix
-unfoldable pub matrix_of_text : List ℕ → Result Distances MatrixRefusal
+unfoldable pub matrix_of_text : List ℕ → Result MatrixData MatrixRefusal
 matrix_of_text bytes = required refusals.NotJson (json_of bytes) >>= matrix_at

@@ -1,13 +1,13 @@
 ghost use Rattle.std.specs.Prelude.{◌≡◌, ℕ, ◌*◌, ◌/◌, ◌%◌, ◌==◌, ◌<◌, ◌≤◌, false, not, nat_lt, [], OnOk, length, slice_index, slice_index_or};
 ghost use Rattle.std.specs.List.{list_any};
-ghost use Rattle.helios_model.specs.Distinct.{same_text};
+ghost use Rattle.helios_model.specs.Texts.{same_text};
 ghost use Rattle.helios_model.specs.Limits.{longest_trip};
-ghost use Rattle.helios_model.specs.Setting.{trip_at, IsMatrix};
+ghost use Rattle.helios_model.specs.Plans.{trip_at, IsMatrix};
 ghost use Rattle.json_text.specs.Reading.{Gives};
 ghost use Rattle.rtt_matrix.specs.Reading.{first_below, is_bad_name, is_uneven, names_checked, trips_checked};
 
 use crate::refusal::MatrixRefusal;
-use helios_model::names::Name;
+use helios_model::Name;
 use json_text::is_name;
 
 const MOST_SITES: usize = 32;

@@ -4,7 +4,7 @@ ghost use Rattle.serde_json.specs.View.{items_view};
 ghost use Rattle.rtt_matrix.specs.Reading.{trips_from};
 
 use crate::refusal::MatrixRefusal;
-use helios_model::numbers::Times;
+use helios_model::Times;
 use json_text::row;
 use serde_json::Value;
 use std::alloc::Global;

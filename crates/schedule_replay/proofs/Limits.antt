@@ -1,12 +1,12 @@
 use Rattle.std.proofs.Common.{All, ◌<◌, length, get_or, ◌≡◌, ℕ, List, [], ◌∷◌, map, refl}
 use Rattle.std.specs.List.{list_any}
 use Rattle.std.proofs.lemmas.List.{length-map}
-use Rattle.helios_model.specs.declared.items.ReadItem.{ReadItem}
-use Rattle.helios_model.specs.declared.items.PutItem.{PutItem}
-use Rattle.helios_model.specs.declared.items.WriteItem.{WriteItem}
-use Rattle.helios_model.specs.declared.record.Record.{Record}
-use Rattle.helios_model.specs.Distinct.{all_differ, same_text}
-use Rattle.helios_model.specs.TransactionLimits.{IsTransaction, IsAsk}
+use Rattle.helios_model.specs.declared.transactions.ReadItem.{ReadItem}
+use Rattle.helios_model.specs.declared.transactions.PutItem.{PutItem}
+use Rattle.helios_model.specs.declared.transactions.WriteItem.{WriteItem}
+use Rattle.helios_model.specs.declared.records.Record.{Record}
+use Rattle.helios_model.specs.Texts.{all_differ, same_text}
+use Rattle.helios_model.specs.Transactions.{IsTransaction, IsAsk}
 use Rattle.helios_model.specs.Request.{write_at}
 use Rattle.schedule_replay.specs.declared.reads.PlannedRead.{PlannedRead}
 use Rattle.schedule_replay.specs.declared.inputs.Planned.{Planned}

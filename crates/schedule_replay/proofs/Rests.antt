@@ -5,19 +5,18 @@ use Rattle.schedule_replay.specs.Scan.{own_commit_in, own_event}
 use Rattle.std.proofs.lemmas.List.{drop_more}
 use Rattle.helios_model.specs.declared.ids.TxnId.{TxnId}
 use Rattle.helios_model.specs.declared.ids.Version.{Version}
-use Rattle.helios_model.specs.declared.record.Record.{Record}
-use Rattle.helios_model.specs.declared.input.Entry.{Entry}
-use Rattle.helios_model.specs.declared.commits.CommitEvent.{CommitEvent}
+use Rattle.helios_model.specs.declared.records.Record.{Record}
+use Rattle.helios_model.specs.declared.entries.Entry.{Entry}
+use Rattle.helios_model.specs.declared.records.CommitEvent.{CommitEvent}
 use Rattle.helios_model.specs.Step.{after_entries}
 use Rattle.helios_model.specs.World.{is_own_commit, replies}
 use Rattle.schedule_replay.specs.Held.{Held}
 use Rattle.schedule_replay.specs.Report.{commit_line, refusals_in, site_line}
 use Rattle.schedule_replay.specs.Standing.{reply_lines}
 use Rattle.helios_model.specs.Ids.{same_id}
-use Rattle.helios_model.specs.Transaction.{Transaction}
-use Rattle.helios_model.specs.Conflict.{conflict}
+use Rattle.helios_model.specs.Transactions.{Transaction, conflict}
 use Rattle.helios_model.specs.Log.{prepare_in, commit_in, version_after, finished}
-use Rattle.helios_model.specs.Setting.{Setting}
+use Rattle.helios_model.specs.Plans.{PlanData}
 use Rattle.helios_model.specs.Node.{Node, is_own}
 use Rattle.helios_model.specs.Settle.{is_reached}
 use Rattle.std.specs.Prelude.{not}
@@ -55,28 +54,28 @@ pub own_open_drop : (log : List Record) (site : ℕ) (i : ℕ) (d : Record) → 
     → own_open_rest log site (drop i log) ≡ own_open_rest log site (get_or log i d ∷ drop (i + 1) log)
 own_open_drop log site i d h = rw (drop_more log i d h) refl
 
-abbrev pub ready_rest : Setting → Node → List Record → List TxnId
+abbrev pub ready_rest : PlanData → Node → List Record → List TxnId
 ready_rest plan n rest = map (λ p. p.id) (filter (λ p. is_reached plan n p.id.time) (own_open_rest n.log n.site rest))
 
-pub ready_drop : (plan : Setting) (n : Node) (log : List Record) (i : ℕ) (d : Record) → i < length log
+pub ready_drop : (plan : PlanData) (n : Node) (log : List Record) (i : ℕ) (d : Record) → i < length log
     → ready_rest plan n (drop i log) ≡ ready_rest plan n (get_or log i d ∷ drop (i + 1) log)
 ready_drop plan n log i d h = rw (drop_more log i d h) refl
 
-pub after_drop : (plan : Setting) (n : Node) (entries : List Entry) (i : ℕ) (d : Entry) → i < length entries
+pub after_drop : (plan : PlanData) (n : Node) (entries : List Entry) (i : ℕ) (d : Entry) → i < length entries
     → after_entries plan n (drop i entries) ≡ after_entries plan n (get_or entries i d ∷ drop (i + 1) entries)
 after_drop plan n entries i d h = rw (drop_more entries i d h) refl
 
-abbrev pub lines_rest : ℕ → Setting → Node → List Entry → List ℕ
+abbrev pub lines_rest : ℕ → PlanData → Node → List Entry → List ℕ
 lines_rest number plan n entries = reply_lines number (replies plan n entries)
 
-pub lines_drop : (number : ℕ) (plan : Setting) (n : Node) (entries : List Entry) (i : ℕ) (d : Entry) → i < length entries
+pub lines_drop : (number : ℕ) (plan : PlanData) (n : Node) (entries : List Entry) (i : ℕ) (d : Entry) → i < length entries
     → lines_rest number plan n (drop i entries) ≡ lines_rest number plan n (get_or entries i d ∷ drop (i + 1) entries)
 lines_drop number plan n entries i d h = rw (drop_more entries i d h) refl
 
-abbrev pub refusals_rest : Setting → Node → List Entry → ℕ
+abbrev pub refusals_rest : PlanData → Node → List Entry → ℕ
 refusals_rest plan n entries = refusals_in (replies plan n entries)
 
-pub refusals_drop : (plan : Setting) (n : Node) (entries : List Entry) (i : ℕ) (d : Entry) → i < length entries
+pub refusals_drop : (plan : PlanData) (n : Node) (entries : List Entry) (i : ℕ) (d : Entry) → i < length entries
     → refusals_rest plan n (drop i entries) ≡ refusals_rest plan n (get_or entries i d ∷ drop (i + 1) entries)
 refusals_drop plan n entries i d h = rw (drop_more entries i d h) refl
 

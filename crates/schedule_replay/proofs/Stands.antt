@@ -6,7 +6,7 @@ use Rattle.std.proofs.lemmas.List.{append-nil, length-set, length-take-le, take_
 use Rattle.std.proofs.lemmas.List.Folds.{flat_map-map}
 use Rattle.std.proofs.lemmas.List.FromFn.{fill_by_all, map-range_with_len_more, length-map-range_with_len, get_or-map-range_with_len}
 use Rattle.std.proofs.lemmas.List.Sums.{sum_by-append}
-use Rattle.helios_model.specs.Setting.{Setting, count_of}
+use Rattle.helios_model.specs.Plans.{PlanData, count_of}
 use Rattle.helios_model.specs.Step.{after_entries}
 use Rattle.helios_model.specs.World.{World, Told, done, first_world, node_of, own_commits, replies}
 use Rattle.helios_model.proofs.LawProofs.Placed.{node_placed}
@@ -24,7 +24,7 @@ use Rattle.schedule_replay.specs.Report.{commit_line, is_refusal, lines_from, re
 use Rattle.schedule_replay.specs.Standing.{IsStandingAt, core_after, first_held, held_of, reply_lines}
 
 -- the lines of one step more
-pub lines_push : (plan : Setting) (w : World) (number : ℕ) (steps : List Step) (s : Step)
+pub lines_push : (plan : PlanData) (w : World) (number : ℕ) (steps : List Step) (s : Step)
     → lines_from plan w number (steps ++ s ∷ []) ≡ lines_from plan w number steps ++ step_lines plan (after_steps plan w steps) (number + length steps) s
 lines_push plan w number [] s = append-nil (step_lines plan w number s) ∙ ap (λ k. step_lines plan w k s) (sym (add-zero number))
 lines_push plan w number (x ∷ xs) s =
@@ -38,17 +38,17 @@ lines_push plan w number (x ∷ xs) s =
 pub refusals_push : (told more : List Told) → refusals_in (told ++ more) ≡ refusals_in told + refusals_in more
 refusals_push told more = sum_by-append (λ t. if is_refusal t.reply then 1 else 0) told more
 
-pub journals_of : (plan : Setting) (steps : List Step) (w : World) → length w.journals ≡ count_of plan → length (after_steps plan w steps).journals ≡ count_of plan
+pub journals_of : (plan : PlanData) (steps : List Step) (w : World) → length w.journals ≡ count_of plan → length (after_steps plan w steps).journals ≡ count_of plan
 journals_of plan [] w h = h
 journals_of plan (Batch site inputs ∷ steps) w h =
     journals_of plan steps (after_step plan w (Batch site inputs)) (journals_stay plan w site (entries_for (node_of plan w site).log inputs) ∙ h)
 
 -- the world that one step more reaches
-pub reached_push : (plan : Setting) (steps : List Step) (s : Step) → reached plan (steps ++ s ∷ []) ≡ after_step plan (reached plan steps) s
+pub reached_push : (plan : PlanData) (steps : List Step) (s : Step) → reached plan (steps ++ s ∷ []) ≡ after_step plan (reached plan steps) s
 reached_push plan steps s = fold-append (after_step plan) (first_world plan) steps (s ∷ [])
 
 -- a step more at a site keeps what a replay stands for
-module _ (plan : Setting) (before : List Step) (site : ℕ) (inputs : List Planned) (cores : List Held) (low : site < count_of plan) where
+module _ (plan : PlanData) (before : List Step) (site : ℕ) (inputs : List Planned) (cores : List Held) (low : site < count_of plan) where
   pub here : World
   here = reached plan before
 
@@ -70,7 +70,7 @@ module _ (plan : Setting) (before : List Step) (site : ℕ) (inputs : List Plann
           ∙ ap (λ n. record { plan = plan; node = n }) (sym (node_elsewhere plan (reached plan before) site k (entries_for (node_of plan (reached plan before) site).log inputs) apart))
 
 -- a replay that begins stands for no steps
-pub stand_first : (plan : Setting) (cores : List Held) (output : Output) → cores ≡ map (first_held plan) (range_with_len 0 (count_of plan))
+pub stand_first : (plan : PlanData) (cores : List Held) (output : Output) → cores ≡ map (first_held plan) (range_with_len 0 (count_of plan))
     → output.text.items ≡ [] → output.commits.items ≡ [] → output.refusals ≡ 0 → IsStandingAt plan [] cores output
 stand_first plan cores output made text commits refusals = record {
   sites = ap length made ∙ length-map-range_with_len (first_held plan) 0 (count_of plan);
@@ -84,21 +84,21 @@ stand_first plan cores output made text commits refusals = record {
 }
 
 -- the closing lines of what a replay stands for
-pub closing_stands : (plan : Setting) (steps : List Step) (cores : List Held) (output : Output) (d : Held) → IsStandingAt plan steps cores output
+pub closing_stands : (plan : PlanData) (steps : List Step) (cores : List Held) (output : Output) (d : Held) → IsStandingAt plan steps cores output
     → flat_map (λ h. site_line h.plan h.node) cores ≡ flat_map (λ site. site_line plan (node_of plan (reached plan steps) site)) (range_with_len 0 (count_of plan))
 closing_stands plan steps cores output d h =
     ap (flat_map (λ h. site_line h.plan h.node)) (fill_by_all (held_of plan (reached plan steps)) cores (count_of plan) d h.sites (λ k low. h.nodes k d low))
     ∙ flat_map-map (λ h. site_line h.plan h.node) (held_of plan (reached plan steps)) (range_with_len 0 (count_of plan))
 
 -- one more site's core
-pub cores_push : (plan : Setting) (count : ℕ) (cores cores' : List Held) (h : Held) → cores' ≡ cores ++ h ∷ []
+pub cores_push : (plan : PlanData) (count : ℕ) (cores cores' : List Held) (h : Held) → cores' ≡ cores ++ h ∷ []
     → cores ≡ map (first_held plan) (range_with_len 0 count) → h ≡ first_held plan count → cores' ≡ map (first_held plan) (range_with_len 0 (count + 1))
 cores_push plan count cores cores' h pushed made is =
     pushed ∙ ap (λ hs. hs ++ h ∷ []) made ∙ ap (λ x. map (first_held plan) (range_with_len 0 count) ++ x ∷ []) is
     ∙ sym (map-range_with_len_more (first_held plan) 0 count count (zero-add count))
 
 -- a step more keeps what a replay stands for
-pub step_stands : (plan : Setting) (steps before : List Step) (number site : ℕ) (inputs : List Planned) (cores : List Held) (output output' : Output) (h h' : Held) (d : Step)
+pub step_stands : (plan : PlanData) (steps before : List Step) (number site : ℕ) (inputs : List Planned) (cores : List Held) (output output' : Output) (h h' : Held) (d : Step)
     → number < length steps → before ≡ take number steps → get_or steps number d ≡ Batch site inputs
     → site < count_of plan → length inputs ≡ 1 → IsStandingAt plan before cores output
     → h ≡ get_or cores site h → h' ≡ core_after h inputs
@@ -142,7 +142,7 @@ step_stands plan steps before number site inputs cores output output' h h' d low
     })
 
 -- the report of what a replay stands for
-pub report_stands : (plan : Setting) (steps : List Step) (cores : List Held) (output : Output) (report : Report) (d : Held) → IsStandingAt plan steps cores output
+pub report_stands : (plan : PlanData) (steps : List Step) (cores : List Held) (output : Output) (report : Report) (d : Held) → IsStandingAt plan steps cores output
     → report.text ≡ output.text.items ++ flat_map commit_line output.commits.items ++ flat_map (λ h. site_line h.plan h.node) cores
     → report.commits ≡ output.commits.items → report.refusals ≡ output.refusals → IsReport plan steps report
 report_stands plan steps cores output report d standing text commits refusals = record {
@@ -160,7 +160,7 @@ step_is : (s : Step) (site : ℕ) (inputs : List Planned) → site ≡ site_of s
 step_is (Batch a b) site inputs here asked = cc
 
 -- the same, for the step that stands at a place
-pub step_at_stands : (plan : Setting) (steps : List Step) (number site : ℕ) (inputs : List Planned) (cores : List Held) (output output' : Output) (h h' : Held) (s : Step)
+pub step_at_stands : (plan : PlanData) (steps : List Step) (number site : ℕ) (inputs : List Planned) (cores : List Held) (output output' : Output) (h h' : Held) (s : Step)
     → number < length steps → s ≡ get_or steps number s → site ≡ site_of s → inputs ≡ inputs_of s
     → All (IsPlannedStep plan) steps → IsStandingAt plan (take number steps) cores output
     → h ≡ get_or cores site h → h' ≡ core_after h inputs
@@ -175,7 +175,7 @@ step_at_stands plan steps number site inputs cores output output' h h' s low at 
     step_stands plan steps (take number steps) number site inputs cores output output' h h' s low refl is planned.here planned.one standing is_core is_after text commits refusals few
 
 -- after all steps what is left to do is to close the report
-pub report_at_end : (plan : Setting) (steps items : List Step) (number : ℕ) (cores : List Held) (output : Output) (report : Report)
+pub report_at_end : (plan : PlanData) (steps items : List Step) (number : ℕ) (cores : List Held) (output : Output) (report : Report)
     → items ≡ steps → length items ≤ number → IsStandingAt plan (take number items) cores output
     → report.text ≡ output.text.items ++ flat_map commit_line output.commits.items ++ flat_map (λ h. site_line h.plan h.node) cores
     → report.commits ≡ output.commits.items → report.refusals ≡ output.refusals → IsReport plan steps report

@@ -2,10 +2,10 @@
 use Rattle.std.proofs.Common.{All, ◌≡◌, ◌≢◌, ℕ, ◌+◌, ◌*◌, ◌<◌, ◌≤◌, ◌⊎◌, inl, inr, IsTrue, List, [], ◌∷◌, length, refl, arith}
 use Rattle.std.proofs.lemmas.Bool.{cases_eq}
 use Rattle.std.proofs.lemmas.List.Elements.{All-cons, All-nil}
-use Rattle.helios_model.specs.Limits.{IsName, IsNameByte, longest_trip, greatest_latency}
-use Rattle.helios_model.specs.declared.items.PutItem.{PutItem}
-use Rattle.helios_model.specs.Distinct.{all_differ}
-use Rattle.helios_model.specs.Setting.{Setting, IsAccepted, IsPlan, count_of, latency, rtt, trip_at}
+use Rattle.helios_model.specs.Texts.{IsName, IsNameByte, all_differ}
+use Rattle.helios_model.specs.Limits.{longest_trip, greatest_latency}
+use Rattle.helios_model.specs.declared.transactions.PutItem.{PutItem}
+use Rattle.helios_model.specs.Plans.{PlanData, IsAccepted, IsPlan, count_of, latency, rtt, trip_at}
 use Rattle.schedule_replay.specs.declared.reads.PlannedRead.{PlannedRead}
 use Rattle.schedule_replay.specs.declared.inputs.Planned.TheVariants.{Request}
 use Rattle.schedule_replay.specs.Replayable.{IsGiven, IsPlannedBatch, IsPlannedInput}
@@ -64,7 +64,7 @@ two_sites_is_plan = record {
       (All-cons (λ half_micros. half_micros ≤ greatest_latency) 200 [] (omega arith) (All-nil (λ half_micros. half_micros ≤ greatest_latency)));
 }
 
-abbrev pub two_sites : Setting
+abbrev pub two_sites : PlanData
 two_sites = record { names = two_names; trips = two_trips; latencies = two_latencies }
 
 far_enough : (i j : ℕ) → (i ≡ 0) ⊎ (i ≡ 1) → (j ≡ 0) ⊎ (j ≡ 1) → i ≢ j → 2 * rtt two_sites i j ≤ latency two_sites i + latency two_sites j
@@ -81,7 +81,7 @@ one_differs text [] few = refl
 one_differs text (x ∷ []) few = refl
 one_differs text (x ∷ y ∷ ys) few = absurd (omega arith)
 
-pub one_request_is_planned : (plan : Setting) (site at : ℕ) (reads : List PlannedRead) (puts : List PutItem)
+pub one_request_is_planned : (plan : PlanData) (site at : ℕ) (reads : List PlannedRead) (puts : List PutItem)
     → site < count_of plan → length reads ≤ 1 → All (λ r. IsGiven r.version) reads → length puts ≡ 1
     → IsPlannedBatch plan site (Request at reads puts ∷ [])
 one_request_is_planned plan site at reads puts here few given one = record {

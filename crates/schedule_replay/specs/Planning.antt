@@ -1,10 +1,10 @@
 use Rattle.std.specs.Prelude.{ℕ, List, [], ◌∷◌, map, fold}
 use Rattle.helios_model.specs.declared.ids.Version.{Version}
-use Rattle.helios_model.specs.declared.items.ReadItem.{ReadItem}
-use Rattle.helios_model.specs.declared.input.Entry.{Entry}
-use Rattle.helios_model.specs.declared.input.Input.TheVariants as Inputs
-use Rattle.helios_model.specs.declared.record.Record.{Record}
-use Rattle.helios_model.specs.Setting.{Setting}
+use Rattle.helios_model.specs.declared.transactions.ReadItem.{ReadItem}
+use Rattle.helios_model.specs.declared.entries.Entry.{Entry}
+use Rattle.helios_model.specs.declared.entries.Input.TheVariants as Inputs
+use Rattle.helios_model.specs.declared.records.Record.{Record}
+use Rattle.helios_model.specs.Plans.{PlanData}
 use Rattle.helios_model.specs.Log.{current}
 use Rattle.helios_model.specs.World.{World, Event, Batch, Done, happens, node_of}
 use Rattle.schedule_replay.specs.declared.reads.PlannedVersion.{PlannedVersion}
@@ -38,17 +38,17 @@ abbrev pub inputs_of : Step → List Planned
 inputs_of (Steps.Batch site inputs) = inputs
 
 -- the step of the world that a planned step is
-abbrev pub event_for : Setting → World → Step → Event
+abbrev pub event_for : PlanData → World → Step → Event
 event_for plan w (Steps.Batch site inputs) = Batch site (entries_for (node_of plan w site).log inputs) Done
 
-abbrev pub after_step : Setting → World → Step → World
+abbrev pub after_step : PlanData → World → Step → World
 after_step plan w s = happens plan w (event_for plan w s)
 
 -- the world that the steps reach, one after the other
-abbrev pub after_steps : Setting → World → List Step → World
+abbrev pub after_steps : PlanData → World → List Step → World
 after_steps plan w steps = fold (after_step plan) w steps
 
 -- the same as a list of steps of the world, each as it is meant in the world that the ones before it reach
-abbrev pub events_for : Setting → World → List Step → List Event
+abbrev pub events_for : PlanData → World → List Step → List Event
 events_for plan w [] = []
 events_for plan w (s ∷ ss) = event_for plan w s ∷ events_for plan (after_step plan w s) ss

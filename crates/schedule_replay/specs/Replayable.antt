@@ -1,10 +1,10 @@
 use Rattle.std.specs.Prelude.{◌≡◌, ℕ, ◌<◌, ◌≤◌, List, length, All, IsTrue}
 use Rattle.helios_model.specs.declared.ids.Version.{Version}
 use Rattle.helios_model.specs.declared.ids.Version.TheVariants.{Initial, Of}
-use Rattle.helios_model.specs.declared.items.PutItem.{PutItem}
+use Rattle.helios_model.specs.declared.transactions.PutItem.{PutItem}
 use Rattle.helios_model.specs.Limits.{most_items, last_time}
-use Rattle.helios_model.specs.Distinct.{all_differ}
-use Rattle.helios_model.specs.Setting.{Setting, IsAccepted, count_of}
+use Rattle.helios_model.specs.Texts.{all_differ}
+use Rattle.helios_model.specs.Plans.{PlanData, IsAccepted, count_of}
 use Rattle.schedule_replay.specs.declared.reads.PlannedVersion.{PlannedVersion}
 use Rattle.schedule_replay.specs.declared.reads.PlannedVersion.TheVariants.{At, Current}
 use Rattle.schedule_replay.specs.declared.reads.PlannedRead.{PlannedRead}
@@ -39,16 +39,16 @@ abbrev pub IsPlannedInput : Planned → Type 0
 IsPlannedInput (Request at reads puts) = IsPlannedRequest reads puts
 
 -- a batch of one request at a site of the plan
-pub record IsPlannedBatch (plan : Setting) (site : ℕ) (inputs : List Planned) : Type 0 where
+pub record IsPlannedBatch (plan : PlanData) (site : ℕ) (inputs : List Planned) : Type 0 where
   pub here : site < count_of plan
   pub one : length inputs ≡ 1
   pub each : All IsPlannedInput inputs
 
-abbrev pub IsPlannedStep : Setting → Step → Type 0
+abbrev pub IsPlannedStep : PlanData → Step → Type 0
 IsPlannedStep plan (Batch site inputs) = IsPlannedBatch plan site inputs
 
 -- a schedule that a replay takes: an accepted plan, and at most so many steps, each of this form
-pub record IsReplayable (plan : Setting) (steps : List Step) : Type 0 where
+pub record IsReplayable (plan : PlanData) (steps : List Step) : Type 0 where
   pub accepted : IsAccepted plan
   pub few : length steps ≤ most_steps
   pub each : All (IsPlannedStep plan) steps

@@ -1,13 +1,13 @@
 use Rattle.std.specs.Prelude.{ℕ, List, Option, Some, None, if◌then◌else◌}
 use Rattle.helios_model.specs.declared.ids.TxnId.{TxnId}
-use Rattle.helios_model.specs.declared.record.Record.{Record}
-use Rattle.helios_model.specs.declared.record.Record.TheVariants.{Prepare, Commit, Abort}
+use Rattle.helios_model.specs.declared.records.Record.{Record}
+use Rattle.helios_model.specs.declared.records.Record.TheVariants.{Prepare, Commit, Abort}
 use Rattle.helios_model.specs.Ids.{same_id}
-use Rattle.helios_model.specs.Transaction.{Transaction}
-use Rattle.helios_model.specs.declared.commits.CommitEvent.{CommitEvent}
+use Rattle.helios_model.specs.Transactions.{Transaction}
+use Rattle.helios_model.specs.declared.records.CommitEvent.{CommitEvent}
 use Rattle.helios_model.specs.Log.{commit_in, finished, prepare_of}
 use Rattle.helios_model.specs.World.{is_own_commit}
-use Rattle.helios_model.specs.Setting.{Setting}
+use Rattle.helios_model.specs.Plans.{PlanData}
 use Rattle.helios_model.specs.Node.{Node, is_own}
 use Rattle.helios_model.specs.Settle.{is_reached}
 
@@ -36,12 +36,12 @@ own_only site (Some p) = if is_own site p then Some p else None
 abbrev pub own_open_in : List Record → ℕ → Record → Option Transaction
 own_open_in log site r = own_only site (open_in log r)
 
-abbrev pub reached_only : Setting → Node → Option Transaction → Option TxnId
+abbrev pub reached_only : PlanData → Node → Option Transaction → Option TxnId
 reached_only plan n None = None
 reached_only plan n (Some p) = if is_reached plan n p.id.time then Some p.id else None
 
 -- the id of a record's transaction, where it is an own one that commits now
-abbrev pub ready_in : Setting → Node → Record → Option TxnId
+abbrev pub ready_in : PlanData → Node → Record → Option TxnId
 ready_in plan n r = reached_only plan n (own_open_in n.log n.site r)
 
 abbrev pub own_event : ℕ → Option CommitEvent → Option CommitEvent

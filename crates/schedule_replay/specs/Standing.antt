@@ -1,6 +1,6 @@
 use Rattle.std.specs.Prelude.{◌≡◌, ℕ, ◌<◌, ◌≤◌, List, length, slice_index_or}
 use Rattle.std.specs.List.{flat_map}
-use Rattle.helios_model.specs.Setting.{Setting, count_of}
+use Rattle.helios_model.specs.Plans.{PlanData, count_of}
 use Rattle.helios_model.specs.Node.{empty_node}
 use Rattle.helios_model.specs.Step.{after_entries}
 use Rattle.helios_model.specs.World.{World, Told, first_world, node_of}
@@ -19,15 +19,15 @@ reply_lines number told = flat_map (λ t. reply_line number t.site t.reply) told
 abbrev pub core_after : Held → List Planned → Held
 core_after h inputs = record { plan = h.plan; node = after_entries h.plan h.node (entries_for h.node.log inputs) }
 
-abbrev pub held_of : Setting → World → ℕ → Held
+abbrev pub held_of : PlanData → World → ℕ → Held
 held_of plan w site = record { plan = plan; node = node_of plan w site }
 
 -- a site's core before any step
-abbrev pub first_held : Setting → ℕ → Held
+abbrev pub first_held : PlanData → ℕ → Held
 first_held plan site = record { plan = plan; node = empty_node plan site }
 
 -- cores and output stand for what these steps reach: each site's node, the lines, the history and the refusals
-pub record IsStandingAt (plan : Setting) (steps : List Step) (cores : List Held) (output : Output) : Type 0 where
+pub record IsStandingAt (plan : PlanData) (steps : List Step) (cores : List Held) (output : Output) : Type 0 where
   pub sites : length cores ≡ count_of plan
   pub nodes : (site : ℕ) (d : Held) → site < count_of plan → slice_index_or cores site d ≡ held_of plan (reached plan steps) site
   pub lines : output.text.items ≡ lines_from plan (first_world plan) 0 steps

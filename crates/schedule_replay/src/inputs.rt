@@ -1,5 +1,5 @@
 use crate::planned::PlannedReads;
-use helios_model::item_lists::Puts;
+use helios_model::Puts;
 
 /// An input of a schedule.
 #[derive(Debug, Drop)]

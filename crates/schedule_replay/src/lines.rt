@@ -1,13 +1,10 @@
 // The lines of a report.
 ghost use Rattle.std.specs.Prelude.{◌≡◌, ◌++◌, OnOk, IfOk, string_bytes};
 ghost use Rattle.schedule_replay.specs.Report.{commit_line, is_refusal, reply_line, reply_text, site_line};
-ghost use Rattle.helios_model.specs.Texts.{version_text};
+ghost use Rattle.helios_model.specs.Ids.{version_text};
 
 use crate::node::Core;
-use helios_model::commits::CommitEvent;
-use helios_model::ids::{SiteId, Version};
-use helios_model::keys::Key;
-use helios_model::reply::Reply;
+use helios_model::{CommitEvent, Key, Reply, SiteId, Version};
 use std::alloc::{AllocError, Global};
 
 pub(crate) fn is_refusal(reply: &Reply) -> bool

@@ -1,6 +1,6 @@
 // The node of one site, with its whole log as a list: it follows the rules step by step.
 ghost use Rattle.std.specs.Prelude.{◌≡◌, ◌+◌, ◌*◌, ◌^◌, ◌<◌, IfOk, length};
-ghost use Rattle.helios_model.specs.Setting.{count_of};
+ghost use Rattle.helios_model.specs.Plans.{count_of};
 ghost use Rattle.helios_model.specs.Offset.{is_past};
 ghost use Rattle.helios_model.specs.Node.{clock, empty_node, known, own_open, with_clock, with_record};
 ghost use Rattle.helios_model.specs.Settle.{commit_one, is_reached, ready, settle};
@@ -8,10 +8,7 @@ ghost use Rattle.helios_model.specs.Request.{entered};
 ghost use Rattle.schedule_replay.specs.Scan.{ready_in};
 
 use crate::scan::{count_own_open, own_open_prepare};
-use helios_model::ids::{SiteId, Time, TxnId};
-use helios_model::plan::Plan;
-use helios_model::record::Record;
-use helios_model::transaction::Prepare;
+use helios_model::{Plan, Prepare, Record, SiteId, Time, TxnId};
 use std::alloc::{AllocError, Global};
 use std::marker::Model;
 
@@ -26,7 +23,7 @@ pub(crate) struct Core {
 
 impl Model for Core {
     ghost use Rattle.std.specs.Prelude.{◌≡◌, ◌*◌, ◌<◌, length};
-    ghost use Rattle.helios_model.specs.Setting.{count_of};
+    ghost use Rattle.helios_model.specs.Plans.{count_of};
     ghost use Rattle.schedule_replay.specs.Held.{Held};
 
     ghost Value = { Held };

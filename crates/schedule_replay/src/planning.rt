@@ -6,12 +6,7 @@ ghost use Rattle.schedule_replay.specs.Replayable.{IsPlannedInput};
 use crate::inputs::Planned;
 use crate::reads::{PlannedRead, PlannedVersion};
 use crate::scan::current_version;
-use helios_model::ids::Version;
-use helios_model::input::{Entry, Input};
-use helios_model::item_lists::Reads;
-use helios_model::items::ReadItem;
-use helios_model::record::Record;
-use helios_model::transaction::Ask;
+use helios_model::{Ask, Entry, Input, ReadItem, Reads, Record, Version};
 use std::alloc::{AllocError, Global};
 
 fn version_for(log: &[Record], read: &PlannedRead) -> Version

@@ -1,5 +1,4 @@
-use helios_model::ids::Version;
-use helios_model::keys::Key;
+use helios_model::{Key, Version};
 
 /// The version that a planned request reads.
 #[derive(Clone, Copy, Debug, PartialEq, Eq)]

@@ -1,7 +1,7 @@
 // The replay of a schedule, step by step.
 ghost use Rattle.std.specs.Prelude.{◌≡◌, ◌+◌, ◌<◌, ◌≤◌, ◌++◌, OnOk, IfOk, All, length, map, take};
 ghost use Rattle.std.specs.List.{flat_map, range_with_len};
-ghost use Rattle.helios_model.specs.Setting.{count_of};
+ghost use Rattle.helios_model.specs.Plans.{count_of};
 ghost use Rattle.schedule_replay.specs.Planning.{inputs_of, site_of};
 ghost use Rattle.schedule_replay.specs.Replay.{IsReport};
 ghost use Rattle.schedule_replay.specs.Replayable.{IsPlannedStep, IsReplayable, most_steps};
@@ -16,12 +16,8 @@ use crate::node::Core;
 use crate::schedule::{Report, Schedule};
 use crate::sites::{Output, run_batch};
 use crate::steps::Step;
-use helios_model::commits::CommitEvent;
-use helios_model::history::Commits;
-use helios_model::ids::SiteId;
 use helios_model::laws::each_world_is_safe;
-use helios_model::numbers::Bytes;
-use helios_model::plan::Plan;
+use helios_model::{Bytes, CommitEvent, Commits, Plan, SiteId};
 use std::alloc::{AllocError, Global};
 
 /// A core for each site of the plan.

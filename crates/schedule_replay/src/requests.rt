@@ -6,13 +6,9 @@ ghost use Rattle.helios_model.specs.Step.{step};
 
 use crate::node::Core;
 use crate::scan::{current_version, first_clash, first_stale, is_finished};
-use helios_model::ids::{Time, TxnId};
-use helios_model::input::{Entry, Input};
-use helios_model::item_lists::Writes;
-use helios_model::items::{PutItem, WriteItem};
-use helios_model::record::Record;
-use helios_model::reply::Reply;
-use helios_model::transaction::{Ask, Prepare};
+use helios_model::{
+    Ask, Entry, Input, Prepare, PutItem, Record, Reply, Time, TxnId, WriteItem, Writes,
+};
 use std::alloc::{AllocError, Global};
 
 const LAST_READING: u64 = 4_611_686_018_427_125_760;

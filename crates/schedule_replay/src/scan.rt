@@ -1,20 +1,16 @@
 // Look-ups in a whole log.
 ghost use Rattle.std.specs.Prelude.{◌≡◌, IfOk, filter, length};
 ghost use Rattle.std.specs.Option.{option_map};
-ghost use Rattle.helios_model.specs.Conflict.{writes_key};
+ghost use Rattle.helios_model.specs.Transactions.{writes_key};
 ghost use Rattle.helios_model.specs.Ids.{same_id, same_version};
 ghost use Rattle.helios_model.specs.Log.{current, ends, event_at, finished, prepare_of, unfinished};
 ghost use Rattle.helios_model.specs.Node.{is_own};
 ghost use Rattle.helios_model.specs.Request.{clash, stale_read};
 ghost use Rattle.schedule_replay.specs.Scan.{named_in, open_in, own_commit_in, own_event, own_open_in, transaction_in};
 
-use helios_model::commits::CommitEvent;
-use helios_model::conflicts::conflicts;
-use helios_model::ids::{SiteId, Time, TxnId, Version};
-use helios_model::items::ReadItem;
-use helios_model::keys::Key;
-use helios_model::record::Record;
-use helios_model::transaction::Prepare;
+use helios_model::{
+    CommitEvent, Key, Prepare, ReadItem, Record, SiteId, Time, TxnId, Version, conflicts,
+};
 use std::alloc::AllocError;
 
 fn is_same_version(a: &Version, b: &Version) -> bool

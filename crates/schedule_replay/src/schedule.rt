@@ -1,7 +1,5 @@
 use crate::step_lists::StepList;
-use helios_model::history::Commits;
-use helios_model::numbers::Bytes;
-use helios_model::plan::Plan;
+use helios_model::{Bytes, Commits, Plan};
 
 /// What a cluster is to be taken through: its plan, and the steps of its sites in their order.
 #[derive(Debug, Drop)]

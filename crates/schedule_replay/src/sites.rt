@@ -15,10 +15,7 @@ use crate::node::Core;
 use crate::planning::entries_for;
 use crate::requests::answer;
 use crate::scan::own_commit;
-use helios_model::commits::CommitEvent;
-use helios_model::ids::SiteId;
-use helios_model::input::Entry;
-use helios_model::record::Record;
+use helios_model::{CommitEvent, Entry, Record, SiteId};
 use std::alloc::{AllocError, Global};
 
 /// What a replay has told so far.

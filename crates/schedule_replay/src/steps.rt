@@ -1,5 +1,5 @@
 use crate::input_lists::PlannedInputs;
-use helios_model::ids::SiteId;
+use helios_model::SiteId;
 
 /// A step of a schedule.
 #[derive(Debug, Drop)]

@@ -1,6 +1,6 @@
 // The rules of a node where more than one site stands, and at the end of a clock: what no replay of one site reaches.
 ghost use Rattle.std.specs.Prelude.{◌≡◌, ◌<◌, ◌≤◌, IfOk, All, length};
-ghost use Rattle.helios_model.specs.Setting.{IsAccepted, count_of};
+ghost use Rattle.helios_model.specs.Plans.{IsAccepted, count_of};
 ghost use Rattle.schedule_replay.specs.Replayable.{IsGiven, IsPlannedStep, IsReplayable, IsVersionText, most_steps};
 
 use crate::input_lists::PlannedInputs;
@@ -14,15 +14,10 @@ use crate::requests::answer;
 use crate::schedule::Schedule;
 use crate::step_lists::StepList;
 use crate::steps::Step;
-use helios_model::ids::{SiteId, Time, TxnId, Version};
-use helios_model::input::{Entry, Input};
-use helios_model::item_lists::{Puts, Reads};
-use helios_model::items::{PutItem, ReadItem};
-use helios_model::keys::{Key, Val};
-use helios_model::names::{Name, Names};
-use helios_model::numbers::{Bytes, Times};
-use helios_model::plan::Plan;
-use helios_model::transaction::Ask;
+use helios_model::{
+    Ask, Bytes, Entry, Input, Key, Name, Names, Plan, PutItem, Puts, ReadItem, Reads, SiteId, Time,
+    Times, TxnId, Val, Version,
+};
 use std::alloc::{AllocError, Global};
 use std::test::Fail;
 

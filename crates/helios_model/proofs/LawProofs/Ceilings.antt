@@ -3,17 +3,15 @@ use Rattle.std.proofs.lemmas.List.{length-append}
 use Rattle.std.proofs.lemmas.List.Elements.{All-head, filter-append, filter_agree}
 use Rattle.std.proofs.lemmas.Bool.{cases_Bool, leb-false, both_ways, not_from_true}
 use Rattle.helios_model.specs.declared.ids.TxnId.{TxnId}
-use Rattle.helios_model.specs.declared.items.ReadItem.{ReadItem}
-use Rattle.helios_model.specs.declared.input.Entry.{Entry}
-use Rattle.helios_model.specs.declared.input.Input.{Input}
-use Rattle.helios_model.specs.declared.input.Input.TheVariants.{Request}
-use Rattle.helios_model.specs.declared.record.Record.TheVariants.{Prepare, Commit}
+use Rattle.helios_model.specs.declared.transactions.ReadItem.{ReadItem}
+use Rattle.helios_model.specs.declared.entries.Entry.{Entry}
+use Rattle.helios_model.specs.declared.entries.Input.{Input}
+use Rattle.helios_model.specs.declared.entries.Input.TheVariants.{Request}
+use Rattle.helios_model.specs.declared.records.Record.TheVariants.{Prepare, Commit}
 use Rattle.helios_model.specs.Limits.{most_open, spent_time}
 use Rattle.helios_model.specs.Ids.{same_id}
-use Rattle.helios_model.specs.Transaction.{Transaction}
-use Rattle.helios_model.specs.Asking.{Asking}
-use Rattle.helios_model.specs.Conflict.{conflict}
-use Rattle.helios_model.specs.Setting.{Setting, count_of}
+use Rattle.helios_model.specs.Transactions.{Transaction, Asking, conflict}
+use Rattle.helios_model.specs.Plans.{PlanData, count_of}
 use Rattle.helios_model.specs.Log.{ends, finished, prepares, unfinished}
 use Rattle.helios_model.specs.Node.{Node, empty_node, clock, next_time, is_own, is_spent, own_open}
 use Rattle.helios_model.specs.Settle.{is_reached, commit_one, settle}
@@ -63,11 +61,11 @@ filters_turned p q xs =
     filter_twice p q xs ∙ filter_agree (λ x. q x && p x) (λ x. p x && q x) (λ x. and_turned (q x) (p x)) xs ∙ sym (filter_twice q p xs)
 
 -- from n to m the clock and the number of own unfinished transactions together do not rise, nor does that number
-record IsNoHigher (plan : Setting) (n m : Node) : Type 0 where
+record IsNoHigher (plan : PlanData) (n m : Node) : Type 0 where
   sum : clock plan m + length (own_open m) ≤ clock plan n + length (own_open n)
   count : length (own_open m) ≤ length (own_open n)
 
-commit_no_higher : (plan : Setting) (n : Node) (p : Transaction) → IsKept plan n → IsOpen n p → IsNoHigher plan n (commit_one plan n p.id)
+commit_no_higher : (plan : PlanData) (n : Node) (p : Transaction) → IsKept plan n → IsOpen n p → IsNoHigher plan n (commit_one plan n p.id)
 commit_no_higher plan n p h o =
     let risen : clock plan (commit_one plan n p.id) ≡ clock plan n + 1 =
     known_own plan n (Commit p.id (clock plan n + 1)) (clock plan n + 1) (record { here = h.here; sized = h.placed.sized }) in
@@ -82,7 +80,7 @@ commit_no_higher plan n p h o =
     let fewer_open : length (own_open (commit_one plan n p.id)) + 1 ≤ length (own_open n) = subst (λ ps. length ps + 1 ≤ length (own_open n)) (sym still) less in
     record { sum = omega arith; count = omega arith }
 
-commits_no_higher : (plan : Setting) (n : Node) (ps : List Transaction) → IsKept plan n → IsReady plan n ps
+commits_no_higher : (plan : PlanData) (n : Node) (ps : List Transaction) → IsKept plan n → IsReady plan n ps
     → IsNoHigher plan n (fold (commit_one plan) n (map (λ p. p.id) ps))
 commits_no_higher plan n [] kept h = record { sum = omega arith; count = omega arith }
 commits_no_higher plan n (p ∷ ps) kept h =
@@ -91,17 +89,17 @@ commits_no_higher plan n (p ∷ ps) kept h =
     commits_no_higher plan (commit_one plan n p.id) ps (kept_first plan n p ps kept h) (ready_rest plan n p ps h) in
     record { sum = le_trans rest.sum first.sum; count = le_trans rest.count first.count }
 
-settle_no_higher : (plan : Setting) (n : Node) → IsKept plan n → IsNoHigher plan n (settle plan n)
+settle_no_higher : (plan : PlanData) (n : Node) → IsKept plan n → IsNoHigher plan n (settle plan n)
 settle_no_higher plan n h = commits_no_higher plan n (filter (λ p. is_reached plan n p.id.time) (own_open n)) h (ready_now plan n h)
 
 -- a request is taken only below the end of the clock, and where there is room
-record IsBelow (plan : Setting) (n : Node) (time : ℕ) : Type 0 where
+record IsBelow (plan : PlanData) (n : Node) (time : ℕ) : Type 0 where
   clocked : clock plan n < spent_time
   room : length (own_open n) < most_open
   above : clock plan n < time
   low : time ≤ spent_time
 
-accept_below : (plan : Setting) (n : Node) (id : TxnId) (ask : Asking) → IsKept plan n → IsBelow plan n id.time → id.site ≡ n.site → IsAsked n.log (asked n.log id ask)
+accept_below : (plan : PlanData) (n : Node) (id : TxnId) (ask : Asking) → IsKept plan n → IsBelow plan n id.time → id.site ≡ n.site → IsAsked n.log (asked n.log id ask)
     → StaysBelow plan (settle plan (entered plan n (asked n.log id ask)))
 accept_below plan n id ask h b own taken =
     let p : Transaction = asked n.log id ask in
@@ -120,21 +118,21 @@ accept_below plan n id ask h b own taken =
     let low : id.time ≤ spent_time = b.low in
     record { few_open = omega arith; low_clock = omega arith }
 
-clash_below : (plan : Setting) (n : Node) (id : TxnId) (ask : Asking) (o : Option Transaction) → IsKept plan n → IsBelow plan n id.time → id.site ≡ n.site
+clash_below : (plan : PlanData) (n : Node) (id : TxnId) (ask : Asking) (o : Option Transaction) → IsKept plan n → IsBelow plan n id.time → id.site ≡ n.site
     → stale_read n.log ask.reads ≡ None → clash n.log (asked n.log id ask) ≡ o → StaysBelow plan n → StaysBelow plan (by_clash plan n (asked n.log id ask) o).node
 clash_below plan n id ask (Some q) h b own fresh look low = low
 clash_below plan n id ask None h b own fresh none low =
     accept_below plan n id ask h b own (record { follows = follows_asked n.log id ask fresh; alone = find_none (conflict (asked n.log id ask)) (unfinished n.log) none })
 
-stale_below : (plan : Setting) (n : Node) (id : TxnId) (ask : Asking) (o : Option ReadItem) → IsKept plan n → IsBelow plan n id.time → id.site ≡ n.site
+stale_below : (plan : PlanData) (n : Node) (id : TxnId) (ask : Asking) (o : Option ReadItem) → IsKept plan n → IsBelow plan n id.time → id.site ≡ n.site
     → stale_read n.log ask.reads ≡ o → StaysBelow plan n → StaysBelow plan (by_stale plan n (asked n.log id ask) o).node
 stale_below plan n id ask (Some r) h b own look low = low
 stale_below plan n id ask None h b own fresh low = clash_below plan n id ask (clash n.log (asked n.log id ask)) h b own fresh refl low
 
-next_low : (plan : Setting) (n : Node) (reading : ℕ) → clock plan n < spent_time → next_time plan n reading ≤ spent_time
+next_low : (plan : PlanData) (n : Node) (reading : ℕ) → clock plan n < spent_time → next_time plan n reading ≤ spent_time
 next_low plan n reading below = omega arith
 
-room_below : (plan : Setting) (n : Node) (reading : ℕ) (ask : Asking) (full : Bool) → IsKept plan n → clock plan n < spent_time → is_full n ≡ full
+room_below : (plan : PlanData) (n : Node) (reading : ℕ) (ask : Asking) (full : Bool) → IsKept plan n → clock plan n < spent_time → is_full n ≡ full
     → StaysBelow plan n → StaysBelow plan (by_room plan n (asked n.log (next_id plan n reading) ask) full).node
 room_below plan n reading ask true h clocked look low = low
 room_below plan n reading ask false h clocked look low =
@@ -145,20 +143,20 @@ room_below plan n reading ask false h clocked look low =
       low = next_low plan n reading clocked;
     }) refl refl low
 
-clock_below : (plan : Setting) (n : Node) (reading : ℕ) (input : Input) (spent : Bool) → IsKept plan n → (is_journaled input && is_spent plan n) ≡ spent
+clock_below : (plan : PlanData) (n : Node) (reading : ℕ) (input : Input) (spent : Bool) → IsKept plan n → (is_journaled input && is_spent plan n) ≡ spent
     → StaysBelow plan n → StaysBelow plan (by_clock plan n reading input spent).node
 clock_below plan n reading input true h look low = low
 clock_below plan n reading (Request ask) false h look low =
     room_below plan n reading ask (is_full n) h (leb-false spent_time (clock plan n) look) refl low
 
-entries_below : (plan : Setting) (n : Node) (entries : List Entry) → IsKept plan n → StaysBelow plan n → StaysBelow plan (after_entries plan n entries)
+entries_below : (plan : PlanData) (n : Node) (entries : List Entry) → IsKept plan n → StaysBelow plan n → StaysBelow plan (after_entries plan n entries)
 entries_below plan n [] h low = low
 entries_below plan n (e ∷ es) h low =
     entries_below plan (after_entry plan n e) es (step_answered plan n e h).gone.kept
     (clock_below plan n e.reading e.input (is_journaled e.input && is_spent plan n) h refl low)
 
 -- in every world whatever
-pub node_below : (plan : Setting) (w : World) (k : ℕ) → k < count_of plan → StaysBelow plan (node_of plan w k)
+pub node_below : (plan : PlanData) (w : World) (k : ℕ) → k < count_of plan → StaysBelow plan (node_of plan w k)
 node_below plan w k low =
     let start : clock plan (empty_node plan k) ≡ 0 = empty_unheard plan k k in
     entries_below plan (empty_node plan k) (flat_map (λ batch. batch) (journal_of w k)) (kept_empty plan k low) (record { few_open = omega arith; low_clock = omega arith })

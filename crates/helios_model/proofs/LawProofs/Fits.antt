@@ -2,10 +2,10 @@ use Rattle.std.proofs.Common.{◌≡◌, ◌∙◌, refl, sym, ℕ, Bool, true, 
 use Rattle.std.proofs.lemmas.List.Elements.{Contains-get_or}
 use Rattle.std.proofs.lemmas.Bool.{or_left, or_right, both_ways, false_from_ne_true}
 use Rattle.helios_model.specs.declared.ids.Version.{Version}
-use Rattle.helios_model.specs.declared.items.ReadItem.{ReadItem}
-use Rattle.helios_model.specs.declared.items.WriteItem.{WriteItem}
-use Rattle.helios_model.specs.Transaction.{Transaction}
-use Rattle.helios_model.specs.Conflict.{same_key, reads_key, writes_key, overwrites, conflict}
+use Rattle.helios_model.specs.declared.transactions.ReadItem.{ReadItem}
+use Rattle.helios_model.specs.declared.transactions.WriteItem.{WriteItem}
+use Rattle.helios_model.specs.Transactions.{Transaction, reads_key, writes_key, overwrites, conflict}
+use Rattle.helios_model.specs.Texts.{same_text}
 use Rattle.helios_model.specs.Log.{event_at, version_after}
 use Rattle.helios_model.specs.Serial.{Follows}
 use Rattle.helios_model.proofs.LawProofs.Lists.{any_from, some_of}
@@ -21,11 +21,11 @@ pub conflict_back : (p q : Transaction) → conflict p q ≡ conflict q p
 conflict_back p q = or_turned (overwrites p q) (overwrites q p)
 
 -- a transaction that writes a key which the other reads or writes conflicts with it
-overwrites_touched : (p q : Transaction) (key : List ℕ) → ((other : List ℕ) → same_key key other ≡ true → (reads_key p other || writes_key p other) ≡ true)
+overwrites_touched : (p q : Transaction) (key : List ℕ) → ((other : List ℕ) → same_text key other ≡ true → (reads_key p other || writes_key p other) ≡ true)
     → writes_key q key ≡ true → conflict p q ≡ true
 overwrites_touched p q key touched writes =
-    let found = some_of (λ (w : WriteItem). same_key w.key key) q.writes writes in
-    let same : same_key key found.0.key ≡ true = same_key_back key found.0.key ∙ found.2 in
+    let found = some_of (λ (w : WriteItem). same_text w.key key) q.writes writes in
+    let same : same_text key found.0.key ≡ true = same_key_back key found.0.key ∙ found.2 in
     or_right (overwrites p q) (overwrites q p)
     (any_from (λ w. reads_key p w.key || writes_key p w.key) q.writes found.0 found.1 (touched found.0.key same))
 
@@ -33,13 +33,13 @@ read_unwritten : (p q : Transaction) (r : ReadItem) → conflict p q ≡ false �
 read_unwritten p q r apart there =
     false_from_ne_true (writes_key q r.key) (λ writes. both_ways (conflict p q) apart
     (overwrites_touched p q r.key
-    (λ other same. or_left (reads_key p other) (writes_key p other) (any_from (λ x. same_key x.key other) p.reads r there same)) writes))
+    (λ other same. or_left (reads_key p other) (writes_key p other) (any_from (λ x. same_text x.key other) p.reads r there same)) writes))
 
 write_unwritten : (p q : Transaction) (w : WriteItem) → conflict p q ≡ false → Contains p.writes w → writes_key q w.key ≡ false
 write_unwritten p q w apart there =
     false_from_ne_true (writes_key q w.key) (λ writes. both_ways (conflict p q) apart
     (overwrites_touched p q w.key
-    (λ other same. or_right (reads_key p other) (writes_key p other) (any_from (λ x. same_key x.key other) p.writes w there same)) writes))
+    (λ other same. or_right (reads_key p other) (writes_key p other) (any_from (λ x. same_text x.key other) p.writes w there same)) writes))
 
 unwritten_stays : (key : List ℕ) (version : Version) (q : Transaction) (time : ℕ) → writes_key q key ≡ false
     → version ≡ version_after key version (event_at time q)

@@ -5,7 +5,7 @@ use Rattle.helios_model.specs.declared.ids.TxnId.{TxnId}
 use Rattle.helios_model.specs.declared.ids.Version.{Version}
 use Rattle.helios_model.specs.declared.ids.Version.TheVariants.{Initial, Of}
 use Rattle.helios_model.specs.Ids.{same_id, same_version}
-use Rattle.helios_model.specs.Conflict.{same_key}
+use Rattle.helios_model.specs.Texts.{same_text}
 
 pub same_id_itself : (a : TxnId) → same_id a a ≡ true
 same_id_itself a = and_from (nat_eq a.site a.site) (nat_eq a.time a.time) (eq-eqb a.site a.site refl) (eq-eqb a.time a.time refl)
@@ -20,7 +20,7 @@ same_id_is a b same =
 pub same_id_of : (a b : TxnId) → a ≡ b → same_id a b ≡ true
 same_id_of a b same = ap (λ c. same_id a c) (sym same) ∙ same_id_itself a
 
-pub same_key_back : (a b : List ℕ) → same_key a b ≡ same_key b a
+pub same_key_back : (a b : List ℕ) → same_text a b ≡ same_text b a
 same_key_back a b = nat_list_eq_equiv.symm a b
 
 pub same_version_is : (a b : Version) → same_version a b ≡ true → a ≡ b

@@ -3,12 +3,11 @@ use Rattle.std.proofs.lemmas.List.{take-append-drop, drop_more, get_or-take, get
 use Rattle.std.proofs.lemmas.List.Elements.{All-contains, Contains-append_cases}
 use Rattle.std.proofs.lemmas.Bool.{both_ways, cases_Bool, false_from_ne_true, true_from_ne_false}
 use Rattle.helios_model.specs.declared.ids.TxnId.{TxnId}
-use Rattle.helios_model.specs.declared.record.Record.{Record}
-use Rattle.helios_model.specs.declared.record.Record.TheVariants.{Prepare, Commit, Abort}
+use Rattle.helios_model.specs.declared.records.Record.{Record}
+use Rattle.helios_model.specs.declared.records.Record.TheVariants.{Prepare, Commit, Abort}
 use Rattle.helios_model.specs.Ids.{same_id}
-use Rattle.helios_model.specs.Transaction.{Transaction}
-use Rattle.helios_model.specs.Conflict.{conflict}
-use Rattle.helios_model.specs.Setting.{Setting, count_of}
+use Rattle.helios_model.specs.Transactions.{Transaction, conflict}
+use Rattle.helios_model.specs.Plans.{PlanData, count_of}
 use Rattle.helios_model.specs.Log.{origin, own_time, id_of, ends, finished, prepares, prepare_of, unfinished}
 use Rattle.helios_model.specs.Node.{Node, empty_node}
 use Rattle.helios_model.specs.World.{World, first_world, node_of, run}
@@ -24,7 +23,7 @@ use Rattle.helios_model.proofs.LawProofs.OrderSteps.{cut_prepared}
 use Rattle.helios_model.proofs.LawProofs.Requests.{IsGone}
 use Rattle.helios_model.proofs.LawProofs.Starts.{node_gone}
 
-pub node_laws : (plan : Setting) (w : World) (k : ℕ) → k < count_of plan → NodeLaws plan (node_of plan w k)
+pub node_laws : (plan : PlanData) (w : World) (k : ℕ) → k < count_of plan → NodeLaws plan (node_of plan w k)
 node_laws plan w k low = (node_gone plan w k low).kept.laws
 
 pub each_time_rises : EachTimeRises
@@ -34,7 +33,7 @@ pub each_commit_waited : EachCommitWaited
 each_commit_waited plan events may k low = (node_laws plan (run plan (first_world plan) events) k low).waited
 
 -- in every world whatever, a site's log is its own
-pub log_own : (plan : Setting) (w : World) (k : ℕ) → k < count_of plan → All (λ r. origin r ≡ k) (node_of plan w k).log
+pub log_own : (plan : PlanData) (w : World) (k : ℕ) → k < count_of plan → All (λ r. origin r ≡ k) (node_of plan w k).log
 log_own plan w k low =
     let gone : IsGone plan (empty_node plan k) (node_of plan w k) = node_gone plan w k low in
     subst (All (λ r. origin r ≡ k)) (sym gone.grown) gone.own
@@ -47,7 +46,7 @@ each_log_is_own plan events may k low =
 
 -- ids
 
-pub prepare_own : (plan : Setting) (w : World) (k : ℕ) (p : Transaction) → k < count_of plan → Contains (prepares (node_of plan w k).log) p → p.id.site ≡ k
+pub prepare_own : (plan : PlanData) (w : World) (k : ℕ) (p : Transaction) → k < count_of plan → Contains (prepares (node_of plan w k).log) p → p.id.site ≡ k
 prepare_own plan w k p low there =
     All-contains (λ r. origin r ≡ k) (node_of plan w k).log (Prepare p) (log_own plan w k low) (prepare_stands (node_of plan w k).log p there)
 
@@ -60,7 +59,7 @@ one_in_log log p q ids at_p at_q same = by_case (pairs_cases (λ a b. same_id a.
     by_case (inr (inl apart)) = absurd (both_ways (same_id p.id q.id) apart (same_id_of p.id q.id same))
     by_case (inr (inr apart)) = absurd (both_ways (same_id q.id p.id) apart (same_id_of q.id p.id (sym same)))
 
-pub ids_given_once : (plan : Setting) (w : World) → IdsAreGivenOnce plan w
+pub ids_given_once : (plan : PlanData) (w : World) → IdsAreGivenOnce plan w
 ids_given_once plan w = record {
   in_log = λ k low. (node_laws plan w k low).pool.ids;
   across = λ i j low_i low_j p q at_p at_q same.
@@ -128,7 +127,7 @@ ending_later site log before r after time rises cut timed prepared = by_find (pr
         let at_id : (id_of r).time < own_time r = subst (λ x. x.time < own_time r) named less in
         omega arith
 
-endings_follow : (plan : Setting) (n : Node) → NodeLaws plan n → EndingsFollow plan n
+endings_follow : (plan : PlanData) (n : Node) → NodeLaws plan n → EndingsFollow plan n
 endings_follow plan n h = record {
   behind = λ before r after cut. by_record before r after cut (h.order.each before r after cut);
   once = pairs_from_cuts (λ a b. (id : TxnId) → ends id a ≡ true → ends id b ≡ false) n.log
@@ -228,7 +227,7 @@ each_earlier_ends_first plan events may k low p q before after cut there conflic
     (prepare_stands n.log q (cut_prepared n.log before q after cut)) in
     own_later_ends n.site n.log p q (node_laws plan (run plan (first_world plan) events) k low).order own before after cut there conflicts
 
-versions_current : (plan : Setting) (n : Node) → NodeLaws plan n → VersionsWereCurrent plan n
+versions_current : (plan : PlanData) (n : Node) → NodeLaws plan n → VersionsWereCurrent plan n
 versions_current plan n h = λ before r after cut. by_record before r (h.order.each before r after cut)
   where
     by_record : (before : List Record) (r : Record) → IsLawful n.site before r → FollowsBefore n.site before r

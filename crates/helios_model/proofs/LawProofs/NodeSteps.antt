@@ -5,12 +5,11 @@ use Rattle.std.proofs.lemmas.List.Quantifiers.{all_pairs_push}
 use Rattle.std.proofs.lemmas.Bool.{cases_eq, false_from_ne_true}
 use Rattle.std.proofs.lemmas.Nat.{mul-add-lt}
 use Rattle.helios_model.specs.declared.ids.TxnId.{TxnId}
-use Rattle.helios_model.specs.declared.record.Record.{Record}
-use Rattle.helios_model.specs.declared.record.Record.TheVariants.{Prepare, Commit, Abort}
+use Rattle.helios_model.specs.declared.records.Record.{Record}
+use Rattle.helios_model.specs.declared.records.Record.TheVariants.{Prepare, Commit, Abort}
 use Rattle.helios_model.specs.Ids.{same_id}
-use Rattle.helios_model.specs.Transaction.{Transaction}
-use Rattle.helios_model.specs.Conflict.{conflict}
-use Rattle.helios_model.specs.Setting.{Setting, count_of, rtt, latency}
+use Rattle.helios_model.specs.Transactions.{Transaction, conflict}
+use Rattle.helios_model.specs.Plans.{PlanData, count_of, rtt, latency}
 use Rattle.helios_model.specs.Log.{origin, own_time, finished, prepares, prepare_of, unfinished}
 use Rattle.helios_model.specs.Node.{Node, known, clock, with_clock, with_record}
 use Rattle.helios_model.specs.Settle.{commit_one}
@@ -25,24 +24,24 @@ use Rattle.helios_model.proofs.LawProofs.PoolSteps.{pool_prepare, pool_commit}
 use Rattle.helios_model.proofs.LawProofs.OrderSteps.{order_prepare, order_commit}
 
 -- a node whose site is one of the plan's, with its whole table
-pub record IsWithin (plan : Setting) (n : Node) : Type 0 where
+pub record IsWithin (plan : PlanData) (n : Node) : Type 0 where
   pub here : n.site < count_of plan
   pub sized : length n.table ≡ count_of plan * count_of plan
 
-pub known_own : (plan : Setting) (n : Node) (r : Record) (time : ℕ) → IsWithin plan n
+pub known_own : (plan : PlanData) (n : Node) (r : Record) (time : ℕ) → IsWithin plan n
     → known plan (with_clock plan (with_record n r) time) n.site n.site ≡ time
 known_own plan n r time h =
     let low : n.site * count_of plan + n.site < count_of plan * count_of plan = mul-add-lt n.site (count_of plan) n.site (count_of plan) h.here h.here in
     let inside : n.site * count_of plan + n.site < length n.table = rw h.sized low in
     get_or-set_same n.table (n.site * count_of plan + n.site) time 0 inside
 
-pub known_other : (plan : Setting) (n : Node) (r : Record) (time k : ℕ) → k ≢ n.site
+pub known_other : (plan : PlanData) (n : Node) (r : Record) (time k : ℕ) → k ≢ n.site
     → known plan (with_clock plan (with_record n r) time) n.site k ≡ known plan n n.site k
 known_other plan n r time k apart =
     get_or-set_other n.table (n.site * count_of plan + n.site) (n.site * count_of plan + k) time 0 (λ same. apart (omega arith))
 
 -- a new own record above the clock, whose time becomes the clock
-pub times_own : (plan : Setting) (n : Node) (r : Record) (time : ℕ) → IsWithin plan n → OwnTimesRise plan n → origin r ≡ n.site → own_time r ≡ time
+pub times_own : (plan : PlanData) (n : Node) (r : Record) (time : ℕ) → IsWithin plan n → OwnTimesRise plan n → origin r ≡ n.site → own_time r ≡ time
     → clock plan n < time → OwnTimesRise plan (with_clock plan (with_record n r) time)
 times_own plan n r time inside h own timed above = record {
   positive = All-push (λ x. 0 < own_time x) n.log r h.positive (omega arith);
@@ -75,7 +74,7 @@ times_own plan n r time inside h own timed above = record {
         subst (λ t. own_time r ≤ t) (sym (ap (known plan (with_clock plan (with_record n r) time) n.site) own ∙ known_own plan n r time inside)) here
 
 -- an id above the clock is new
-pub new_id : (plan : Setting) (n : Node) (id : TxnId) → OwnTimesRise plan n → id.site ≡ n.site → clock plan n < id.time → IsNew n.log id
+pub new_id : (plan : PlanData) (n : Node) (id : TxnId) → OwnTimesRise plan n → id.site ≡ n.site → clock plan n < id.time → IsNew n.log id
 new_id plan n id h own above = all_from (λ p. same_id p.id id ≡ false) (prepares n.log) differs
   where
     differs : (p : Transaction) → Contains (prepares n.log) p → same_id p.id id ≡ false
@@ -88,7 +87,7 @@ new_id plan n id h own above = all_from (λ p. same_id p.id id ≡ false) (prepa
         omega arith)
 
 -- what the node has heard of the others stays, so what waited has waited
-still_waited : (plan : Setting) (n : Node) (r : Record) (time : ℕ) → All (IsWaited plan n) n.log
+still_waited : (plan : PlanData) (n : Node) (r : Record) (time : ℕ) → All (IsWaited plan n) n.log
     → All (IsWaited plan (with_clock plan (with_record n r) time)) n.log
 still_waited plan n r time h = All-weaker (IsWaited plan n) (IsWaited plan (with_clock plan (with_record n r) time)) by_record n.log h
   where
@@ -98,7 +97,7 @@ still_waited plan n r time h = All-weaker (IsWaited plan n) (IsWaited plan (with
         subst (λ heard. id.time + latency plan n.site ≤ heard + rtt plan n.site j) (sym (known_other plan n r time j apart)) (w own j low apart)
     by_record (Abort id t cause) w = tt
 
-pub laws_entered : (plan : Setting) (n : Node) (p : Transaction) → IsWithin plan n → NodeLaws plan n → p.id.site ≡ n.site → clock plan n < p.id.time
+pub laws_entered : (plan : PlanData) (n : Node) (p : Transaction) → IsWithin plan n → NodeLaws plan n → p.id.site ≡ n.site → clock plan n < p.id.time
     → IsAsked n.log p → NodeLaws plan (entered plan n p)
 laws_entered plan n p inside h own above asked =
     let new : IsNew n.log p.id = new_id plan n p.id h.times own above in
@@ -118,15 +117,15 @@ pub record IsOpen (n : Node) (p : Transaction) : Type 0 where
   pub own : p.id.site ≡ n.site
 
 -- the node has heard of every other site far enough past the time of the transaction's id
-abbrev pub HasWaited : Setting → Node → Transaction → Type 0
+abbrev pub HasWaited : PlanData → Node → Transaction → Type 0
 HasWaited plan n p = (j : ℕ) → j < count_of plan → j ≢ n.site → p.id.time + latency plan n.site ≤ known plan n n.site j + rtt plan n.site j
 
-pub goes_on_waiting : (plan : Setting) (n : Node) (r : Record) (time : ℕ) (p : Transaction) → HasWaited plan n p
+pub goes_on_waiting : (plan : PlanData) (n : Node) (r : Record) (time : ℕ) (p : Transaction) → HasWaited plan n p
     → HasWaited plan (with_clock plan (with_record n r) time) p
 goes_on_waiting plan n r time p w = λ j low apart.
     subst (λ heard. p.id.time + latency plan n.site ≤ heard + rtt plan n.site j) (sym (known_other plan n r time j apart)) (w j low apart)
 
-pub laws_committed : (plan : Setting) (n : Node) (p : Transaction) → IsWithin plan n → NodeLaws plan n → IsOpen n p → HasWaited plan n p
+pub laws_committed : (plan : PlanData) (n : Node) (p : Transaction) → IsWithin plan n → NodeLaws plan n → IsOpen n p → HasWaited plan n p
     → NodeLaws plan (commit_one plan n p.id)
 laws_committed plan n p inside h o w = record {
   waited = All-push (IsWaited plan (commit_one plan n p.id)) n.log (Commit p.id (clock plan n + 1))

@@ -1,10 +1,9 @@
 use Rattle.std.proofs.Common.{◌≡◌, ◌∙◌, ap, refl, sym, subst, subst₂, ℕ, false, ◌⊎◌, inl, inr, None, List, [], ◌∷◌, ◌++◌, All, Contains}
 use Rattle.std.proofs.lemmas.List.Elements.{All-nil, All-push, All-same, All-contains, Contains-append_right}
 use Rattle.helios_model.specs.declared.ids.TxnId.{TxnId}
-use Rattle.helios_model.specs.declared.record.Record.{Record}
-use Rattle.helios_model.specs.declared.record.Record.TheVariants.{Prepare, Commit}
-use Rattle.helios_model.specs.Transaction.{Transaction}
-use Rattle.helios_model.specs.Conflict.{conflict}
+use Rattle.helios_model.specs.declared.records.Record.{Record}
+use Rattle.helios_model.specs.declared.records.Record.TheVariants.{Prepare, Commit}
+use Rattle.helios_model.specs.Transactions.{Transaction, conflict}
 use Rattle.helios_model.specs.Log.{finished, prepare_in, prepares, unfinished}
 use Rattle.helios_model.specs.Laws.Shapes.{EachBehind}
 use Rattle.helios_model.specs.Laws.Order.{IsNew, IsAsked, IsPending, IsClearBehind, IsLawful, OrderLaws}

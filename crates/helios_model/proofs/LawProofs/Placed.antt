@@ -1,13 +1,13 @@
 use Rattle.std.proofs.Common.{◌≡◌, ◌∙◌, refl, ℕ, ◌+◌, ◌*◌, Bool, true, false, ◌&&◌, Option, Some, None, List, [], ◌∷◌, fold, flat_map, length}
 use Rattle.std.proofs.lemmas.List.{length-set, length-replicate}
 use Rattle.helios_model.specs.declared.ids.TxnId.{TxnId}
-use Rattle.helios_model.specs.declared.items.ReadItem.{ReadItem}
-use Rattle.helios_model.specs.declared.input.Entry.{Entry}
-use Rattle.helios_model.specs.declared.input.Input.{Input}
-use Rattle.helios_model.specs.declared.input.Input.TheVariants.{Request}
-use Rattle.helios_model.specs.declared.record.Record.TheVariants.{Prepare, Commit}
-use Rattle.helios_model.specs.Setting.{Setting, count_of}
-use Rattle.helios_model.specs.Transaction.{Transaction}
+use Rattle.helios_model.specs.declared.transactions.ReadItem.{ReadItem}
+use Rattle.helios_model.specs.declared.entries.Entry.{Entry}
+use Rattle.helios_model.specs.declared.entries.Input.{Input}
+use Rattle.helios_model.specs.declared.entries.Input.TheVariants.{Request}
+use Rattle.helios_model.specs.declared.records.Record.TheVariants.{Prepare, Commit}
+use Rattle.helios_model.specs.Plans.{PlanData, count_of}
+use Rattle.helios_model.specs.Transactions.{Transaction}
 use Rattle.helios_model.specs.Node.{Node, empty_node, clock, with_clock, with_record, is_spent}
 use Rattle.helios_model.specs.Settle.{commit_one, ready}
 use Rattle.helios_model.specs.Request.{entered, by_clash, by_stale, by_room, clash, stale_read, asked, next_id, is_full}
@@ -18,54 +18,54 @@ use Rattle.helios_model.specs.World.Ending.{Done}
 use Rattle.helios_model.specs.Laws.Placed.{IsPlaced, EachNodeIsPlaced}
 use Rattle.helios_model.proofs.LawProofs.Worlds.{first_journals, journals_stay}
 
-pub placed_clock : (plan : Setting) (site : ℕ) (n : Node) (time : ℕ) → IsPlaced plan site n → IsPlaced plan site (with_clock plan n time)
+pub placed_clock : (plan : PlanData) (site : ℕ) (n : Node) (time : ℕ) → IsPlaced plan site n → IsPlaced plan site (with_clock plan n time)
 placed_clock plan site n time h = record {
   at_site = h.at_site;
   sized = length-set n.table (n.site * count_of plan + n.site) time ∙ h.sized;
 }
 
-pub placed_commits : (plan : Setting) (site : ℕ) (n : Node) (ids : List TxnId) → IsPlaced plan site n → IsPlaced plan site (fold (commit_one plan) n ids)
+pub placed_commits : (plan : PlanData) (site : ℕ) (n : Node) (ids : List TxnId) → IsPlaced plan site n → IsPlaced plan site (fold (commit_one plan) n ids)
 placed_commits plan site n [] h = h
 placed_commits plan site n (id ∷ ids) h =
     placed_commits plan site (commit_one plan n id) ids
     (placed_clock plan site (with_record n (Commit id (clock plan n + 1))) (clock plan n + 1) (record { at_site = h.at_site; sized = h.sized }))
 
-pub placed_entered : (plan : Setting) (site : ℕ) (n : Node) (p : Transaction) → IsPlaced plan site n → IsPlaced plan site (entered plan n p)
+pub placed_entered : (plan : PlanData) (site : ℕ) (n : Node) (p : Transaction) → IsPlaced plan site n → IsPlaced plan site (entered plan n p)
 placed_entered plan site n p h = placed_clock plan site (with_record n (Prepare p)) p.id.time (record { at_site = h.at_site; sized = h.sized })
 
-placed_by_clash : (plan : Setting) (site : ℕ) (n : Node) (p : Transaction) (o : Option Transaction) → IsPlaced plan site n
+placed_by_clash : (plan : PlanData) (site : ℕ) (n : Node) (p : Transaction) (o : Option Transaction) → IsPlaced plan site n
     → IsPlaced plan site (by_clash plan n p o).node
 placed_by_clash plan site n p (Some q) h = h
 placed_by_clash plan site n p None h = placed_commits plan site (entered plan n p) (ready plan (entered plan n p)) (placed_entered plan site n p h)
 
-placed_by_stale : (plan : Setting) (site : ℕ) (n : Node) (p : Transaction) (o : Option ReadItem) → IsPlaced plan site n
+placed_by_stale : (plan : PlanData) (site : ℕ) (n : Node) (p : Transaction) (o : Option ReadItem) → IsPlaced plan site n
     → IsPlaced plan site (by_stale plan n p o).node
 placed_by_stale plan site n p (Some r) h = h
 placed_by_stale plan site n p None h = placed_by_clash plan site n p (clash n.log p) h
 
-placed_by_room : (plan : Setting) (site : ℕ) (n : Node) (p : Transaction) (full : Bool) → IsPlaced plan site n
+placed_by_room : (plan : PlanData) (site : ℕ) (n : Node) (p : Transaction) (full : Bool) → IsPlaced plan site n
     → IsPlaced plan site (by_room plan n p full).node
 placed_by_room plan site n p true h = h
 placed_by_room plan site n p false h = placed_by_stale plan site n p (stale_read n.log p.reads) h
 
-placed_by_clock : (plan : Setting) (site : ℕ) (n : Node) (reading : ℕ) (input : Input) (spent : Bool) → IsPlaced plan site n
+placed_by_clock : (plan : PlanData) (site : ℕ) (n : Node) (reading : ℕ) (input : Input) (spent : Bool) → IsPlaced plan site n
     → IsPlaced plan site (by_clock plan n reading input spent).node
 placed_by_clock plan site n reading input true h = h
 placed_by_clock plan site n reading (Request ask) false h = placed_by_room plan site n (asked n.log (next_id plan n reading) ask) (is_full n) h
 
-pub placed_entries : (plan : Setting) (site : ℕ) (n : Node) (entries : List Entry) → IsPlaced plan site n → IsPlaced plan site (after_entries plan n entries)
+pub placed_entries : (plan : PlanData) (site : ℕ) (n : Node) (entries : List Entry) → IsPlaced plan site n → IsPlaced plan site (after_entries plan n entries)
 placed_entries plan site n [] h = h
 placed_entries plan site n (e ∷ es) h =
     placed_entries plan site (after_entry plan n e) es
     (placed_by_clock plan site n e.reading e.input (is_journaled e.input && is_spent plan n) h)
 
 -- in every world whatever, the node of a site is its own, and its table has its size
-pub node_placed : (plan : Setting) (w : World) (k : ℕ) → IsPlaced plan k (node_of plan w k)
+pub node_placed : (plan : PlanData) (w : World) (k : ℕ) → IsPlaced plan k (node_of plan w k)
 node_placed plan w k =
     placed_entries plan k (empty_node plan k) (flat_map (λ batch. batch) (journal_of w k))
     (record { at_site = refl; sized = length-replicate (count_of plan * count_of plan) 0 })
 
-pub run_journals : (plan : Setting) (w : World) (events : List Event) → length (run plan w events).journals ≡ length w.journals
+pub run_journals : (plan : PlanData) (w : World) (events : List Event) → length (run plan w events).journals ≡ length w.journals
 run_journals plan w [] = refl
 run_journals plan w (Batch site entries Done ∷ es) = run_journals plan (happens plan w (Batch site entries Done)) es ∙ journals_stay plan w site entries
 

@@ -4,11 +4,10 @@ use Rattle.std.proofs.lemmas.List.Folds.{list_any_none}
 use Rattle.std.proofs.lemmas.List.Quantifiers.{all_pairs_push}
 use Rattle.std.proofs.lemmas.Bool.{both_ways, not-true}
 use Rattle.helios_model.specs.declared.ids.TxnId.{TxnId}
-use Rattle.helios_model.specs.declared.record.Record.{Record}
-use Rattle.helios_model.specs.declared.record.Record.TheVariants.{Prepare, Commit, Abort}
+use Rattle.helios_model.specs.declared.records.Record.{Record}
+use Rattle.helios_model.specs.declared.records.Record.TheVariants.{Prepare, Commit, Abort}
 use Rattle.helios_model.specs.Ids.{same_id}
-use Rattle.helios_model.specs.Transaction.{Transaction}
-use Rattle.helios_model.specs.Conflict.{conflict}
+use Rattle.helios_model.specs.Transactions.{Transaction, conflict}
 use Rattle.helios_model.specs.Log.{ends, finished, prepares, prepare_of, unfinished, event_at, version_after, current}
 use Rattle.helios_model.specs.Serial.{Follows}
 use Rattle.helios_model.specs.Laws.Pool.{IsBacked, IsApart, PoolLaws}

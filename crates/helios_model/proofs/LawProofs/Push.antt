@@ -6,10 +6,10 @@ use Rattle.std.proofs.lemmas.List.Elements.{filter_map-append, filter-append, fi
 use Rattle.std.proofs.lemmas.List.Folds.{list_any-append, find-append}
 use Rattle.std.proofs.lemmas.Bool.{or_left, or_parts, not-true, not_from_false}
 use Rattle.helios_model.specs.declared.ids.TxnId.{TxnId}
-use Rattle.helios_model.specs.declared.record.Record.{Record}
-use Rattle.helios_model.specs.declared.record.Record.TheVariants.{Prepare, Commit, Abort}
+use Rattle.helios_model.specs.declared.records.Record.{Record}
+use Rattle.helios_model.specs.declared.records.Record.TheVariants.{Prepare, Commit, Abort}
 use Rattle.helios_model.specs.Ids.{same_id}
-use Rattle.helios_model.specs.Transaction.{Transaction}
+use Rattle.helios_model.specs.Transactions.{Transaction}
 use Rattle.helios_model.specs.Log.{ends, finished, prepare_in, prepares, prepare_of, unfinished}
 use Rattle.helios_model.proofs.LawProofs.Lists.{or_false, not_or, filter_twice, contains_filter, contains_from_filter, contains_from_filter_map}
 

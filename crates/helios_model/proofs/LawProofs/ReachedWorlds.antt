@@ -2,10 +2,10 @@ use Rattle.std.proofs.Common.{◌≡◌, ◌≢◌, ◌∙◌, ap, refl, sym, su
 use Rattle.std.proofs.lemmas.List.{append-nil, drop_at}
 use Rattle.std.proofs.lemmas.List.Elements.{All-nil, All-append, All-head, All-tail, All-weaker, filter-append, filter_passes}
 use Rattle.std.proofs.lemmas.Bool.{cases_eq}
-use Rattle.helios_model.specs.declared.input.Entry.{Entry}
-use Rattle.helios_model.specs.declared.record.Record.{Record}
-use Rattle.helios_model.specs.declared.commits.CommitEvent.{CommitEvent}
-use Rattle.helios_model.specs.Setting.{Setting, count_of}
+use Rattle.helios_model.specs.declared.entries.Entry.{Entry}
+use Rattle.helios_model.specs.declared.records.Record.{Record}
+use Rattle.helios_model.specs.declared.records.CommitEvent.{CommitEvent}
+use Rattle.helios_model.specs.Plans.{PlanData, count_of}
 use Rattle.helios_model.specs.Log.{commit_in, commits}
 use Rattle.helios_model.specs.Node.{Node}
 use Rattle.helios_model.specs.Step.{after_entries}
@@ -41,12 +41,12 @@ pub gained_own : (site : ℕ) (log : List Record) (old : ℕ) → All (λ e. is_
 gained_own site log old = filter_passes (is_own_commit site) (filter_map (commit_in log) (drop old log))
 
 -- a world whose journals are as many as the plan's sites
-pub record IsReached (plan : Setting) (w : World) : Type 0 where
+pub record IsReached (plan : PlanData) (w : World) : Type 0 where
   pub journals : length w.journals ≡ count_of plan
   pub history : HistoryIsCommits plan w
   pub told : All (λ t. (t.site < count_of plan) × IsToldIn (node_of plan w t.site).log t) w.told
 
-module _ (plan : Setting) (w : World) (site : ℕ) (entries : List Entry) (journals : length w.journals ≡ count_of plan) (here : site < count_of plan) where
+module _ (plan : PlanData) (w : World) (site : ℕ) (entries : List Entry) (journals : length w.journals ≡ count_of plan) (here : site < count_of plan) where
   abbrev new_world : World
   new_world = happens plan w (Batch site entries Done)
 
@@ -147,12 +147,12 @@ module _ (plan : Setting) (w : World) (site : ℕ) (entries : List Entry) (journ
     told = batch_told h.told;
   }
 
-pub run_reached : (plan : Setting) (w : World) (events : List Event) → IsReached plan w → MayRun plan w events → IsReached plan (run plan w events)
+pub run_reached : (plan : PlanData) (w : World) (events : List Event) → IsReached plan w → MayRun plan w events → IsReached plan (run plan w events)
 run_reached plan w [] h may = h
 run_reached plan w (Batch site entries Done ∷ es) h may =
     run_reached plan (happens plan w (Batch site entries Done)) es (batch_reached plan w site entries h.journals may.0.here h) may.1
 
-pub first_reached : (plan : Setting) → IsReached plan (first_world plan)
+pub first_reached : (plan : PlanData) → IsReached plan (first_world plan)
 first_reached plan = record {
   journals = first_journals plan;
   history = record {
@@ -162,7 +162,7 @@ first_reached plan = record {
   told = All-nil (λ t. (t.site < count_of plan) × IsToldIn (node_of plan (first_world plan) t.site).log t);
 }
 
-pub each_reached : (plan : Setting) (events : List Event) → MayRun plan (first_world plan) events → IsReached plan (run plan (first_world plan) events)
+pub each_reached : (plan : PlanData) (events : List Event) → MayRun plan (first_world plan) events → IsReached plan (run plan (first_world plan) events)
 each_reached plan events may = run_reached plan (first_world plan) events (first_reached plan) may
 
 pub each_history_is_commits : EachHistoryIsCommits
@@ -179,7 +179,7 @@ grows_on xs ys zs first second = record {
   grown = second.grown ∙ ap (λ rest. rest ++ second.more) first.grown ∙ append_assoc xs first.more second.more;
 }
 
-batch_grows : (plan : Setting) (w : World) (site : ℕ) (entries : List Entry) → length w.journals ≡ count_of plan → site < count_of plan
+batch_grows : (plan : PlanData) (w : World) (site : ℕ) (entries : List Entry) → length w.journals ≡ count_of plan → site < count_of plan
     → WorldGrowsTo plan w (happens plan w (Batch site entries Done))
 batch_grows plan w site entries journals here = record {
   told = record { more = replies plan (node_of plan w site) entries; grown = refl };

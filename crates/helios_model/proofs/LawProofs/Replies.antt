@@ -1,16 +1,16 @@
 use Rattle.std.proofs.Common.{◌≡◌, ◌∙◌, ap, refl, sym, subst, ℕ, List, [], ◌∷◌, ◌++◌, append_assoc, length, All, Contains}
 use Rattle.std.proofs.lemmas.List.Elements.{All-nil, All-cons, All-weaker, Contains-append_left}
 use Rattle.helios_model.specs.declared.ids.TxnId.{TxnId}
-use Rattle.helios_model.specs.declared.input.Input.{Input}
-use Rattle.helios_model.specs.declared.input.Input.TheVariants.{Request}
-use Rattle.helios_model.specs.declared.input.Entry.{Entry}
-use Rattle.helios_model.specs.declared.reply.Reply.{Reply}
-use Rattle.helios_model.specs.declared.reply.Reply.TheVariants.{Prepared, Committed, Overwritten, Conflict, ClockSpent, PoolFull}
-use Rattle.helios_model.specs.declared.record.Record.{Record}
-use Rattle.helios_model.specs.declared.record.Record.TheVariants.{Prepare}
-use Rattle.helios_model.specs.Asking.{Asking}
+use Rattle.helios_model.specs.declared.entries.Input.{Input}
+use Rattle.helios_model.specs.declared.entries.Input.TheVariants.{Request}
+use Rattle.helios_model.specs.declared.entries.Entry.{Entry}
+use Rattle.helios_model.specs.declared.entries.Reply.{Reply}
+use Rattle.helios_model.specs.declared.entries.Reply.TheVariants.{Prepared, Committed, Overwritten, Conflict, ClockSpent, PoolFull}
+use Rattle.helios_model.specs.declared.records.Record.{Record}
+use Rattle.helios_model.specs.declared.records.Record.TheVariants.{Prepare}
+use Rattle.helios_model.specs.Transactions.{Asking}
 use Rattle.helios_model.specs.Request.{asked}
-use Rattle.helios_model.specs.Setting.{Setting}
+use Rattle.helios_model.specs.Plans.{PlanData}
 use Rattle.helios_model.specs.Log.{commits}
 use Rattle.helios_model.specs.Node.{Node}
 use Rattle.helios_model.specs.Step.{step, after_entry, after_entries}
@@ -65,15 +65,15 @@ told_grown log more t backed h = record {
 }
 
 -- the same for the log of a node that went on
-pub told_gone : (plan : Setting) (n m : Node) (t : Told) → IsKept plan n → IsGone plan n m → IsToldIn n.log t → IsToldIn m.log t
+pub told_gone : (plan : PlanData) (n m : Node) (t : Told) → IsKept plan n → IsGone plan n m → IsToldIn n.log t → IsToldIn m.log t
 told_gone plan n m t kept gone h = subst (λ log. IsToldIn log t) (sym gone.grown) (told_grown n.log gone.more t kept.laws.pool.backed h)
 
 -- what is told of a batch is of the node's site
-pub record IsToldBy (plan : Setting) (n : Node) (log : List Record) (t : Told) : Type 0 where
+pub record IsToldBy (plan : PlanData) (n : Node) (log : List Record) (t : Told) : Type 0 where
   pub at_site : t.site ≡ n.site
   pub told : IsToldIn log t
 
-pub replies_told : (plan : Setting) (n : Node) (entries : List Entry) → IsKept plan n
+pub replies_told : (plan : PlanData) (n : Node) (entries : List Entry) → IsKept plan n
     → All (IsToldBy plan n (after_entries plan n entries).log) (replies plan n entries)
 replies_told plan n [] h = All-nil (IsToldBy plan n n.log)
 replies_told plan n (e ∷ es) h =

@@ -6,20 +6,18 @@ use Rattle.std.proofs.lemmas.Option.{same_Some}
 use Rattle.std.proofs.lemmas.Bool.{both_ways, not-true, not-false, cond_both, or_cases}
 use Rattle.helios_model.specs.declared.ids.TxnId.{TxnId}
 use Rattle.helios_model.specs.declared.ids.Version.{Version}
-use Rattle.helios_model.specs.declared.items.ReadItem.{ReadItem}
-use Rattle.helios_model.specs.declared.input.Input.{Input}
-use Rattle.helios_model.specs.declared.input.Input.TheVariants.{Request}
-use Rattle.helios_model.specs.declared.input.Entry.{Entry}
-use Rattle.helios_model.specs.declared.reply.Reply.{Reply}
-use Rattle.helios_model.specs.declared.reply.Reply.TheVariants.{Prepared, Committed, Overwritten, Conflict, ClockSpent, PoolFull}
-use Rattle.helios_model.specs.declared.record.Record.{Record}
-use Rattle.helios_model.specs.declared.record.Record.TheVariants.{Prepare, Commit, Abort}
-use Rattle.helios_model.specs.declared.commits.CommitEvent.{CommitEvent}
+use Rattle.helios_model.specs.declared.transactions.ReadItem.{ReadItem}
+use Rattle.helios_model.specs.declared.entries.Input.{Input}
+use Rattle.helios_model.specs.declared.entries.Input.TheVariants.{Request}
+use Rattle.helios_model.specs.declared.entries.Entry.{Entry}
+use Rattle.helios_model.specs.declared.entries.Reply.{Reply}
+use Rattle.helios_model.specs.declared.entries.Reply.TheVariants.{Prepared, Committed, Overwritten, Conflict, ClockSpent, PoolFull}
+use Rattle.helios_model.specs.declared.records.Record.{Record}
+use Rattle.helios_model.specs.declared.records.Record.TheVariants.{Prepare, Commit, Abort}
+use Rattle.helios_model.specs.declared.records.CommitEvent.{CommitEvent}
 use Rattle.helios_model.specs.Ids.{same_id, same_version}
-use Rattle.helios_model.specs.Transaction.{Transaction}
-use Rattle.helios_model.specs.Asking.{Asking}
-use Rattle.helios_model.specs.Conflict.{conflict}
-use Rattle.helios_model.specs.Setting.{Setting}
+use Rattle.helios_model.specs.Transactions.{Transaction, Asking, conflict}
+use Rattle.helios_model.specs.Plans.{PlanData}
 use Rattle.helios_model.specs.Log.{origin, ends, finished, prepares, prepare_of, unfinished, event_at, commit_in, commits, current}
 use Rattle.helios_model.specs.Node.{Node, clock, next_time, is_spent}
 use Rattle.helios_model.specs.Settle.{settle}
@@ -40,17 +38,17 @@ use Rattle.helios_model.proofs.LawProofs.NodeSteps.{new_id, laws_entered}
 use Rattle.helios_model.proofs.LawProofs.Settling.{found_itself, IsKept, IsSettled, IsCommitOf, settle_goes}
 
 -- from n a node went on to m by own records
-pub record IsGone (plan : Setting) (n m : Node) : Type 0 where
+pub record IsGone (plan : PlanData) (n m : Node) : Type 0 where
   pub more : List Record
   pub grown : m.log ≡ n.log ++ more
   pub own : All (λ r. origin r ≡ n.site) more
   pub same_site : m.site ≡ n.site
   pub kept : IsKept plan m
 
-pub goes_nowhere : (plan : Setting) (n : Node) → IsKept plan n → IsGone plan n n
+pub goes_nowhere : (plan : PlanData) (n : Node) → IsKept plan n → IsGone plan n n
 goes_nowhere plan n h = record { more = []; grown = sym (append-nil n.log); own = All-nil (λ r. origin r ≡ n.site); same_site = refl; kept = h }
 
-pub goes_on : (plan : Setting) (n m l : Node) → IsGone plan n m → IsGone plan m l → IsGone plan n l
+pub goes_on : (plan : PlanData) (n m l : Node) → IsGone plan n m → IsGone plan m l → IsGone plan n l
 goes_on plan n m l first second = record {
   more = first.more ++ second.more;
   grown = second.grown ∙ ap (λ log. log ++ second.more) first.grown ∙ append_assoc n.log first.more second.more;
@@ -111,7 +109,7 @@ event_of_commit log id time backed there = by_find (prepare_of log id) refl back
     }
 
 -- a transaction that Settle ended is committed
-settled_commit : (plan : Setting) (n m : Node) (id : TxnId) → IsSettled plan n m → finished n.log id ≡ false → finished m.log id ≡ true → IsCommitIn m.log id
+settled_commit : (plan : PlanData) (n m : Node) (id : TxnId) → IsSettled plan n m → finished n.log id ≡ false → finished m.log id ≡ true → IsCommitIn m.log id
 settled_commit plan n m id s open_then ended =
     by_side (or_cases (finished n.log id) (finished s.more id) (sym (ap (λ log. finished log id) s.grown ∙ list_any-append (ends id) n.log s.more) ∙ ended))
   where
@@ -132,7 +130,7 @@ settled_commit plan n m id s open_then ended =
         by_record found.0 found.1 (All-contains (IsCommitOf n.site) s.more found.0 s.only found.1) found.2
 
 -- the node after an input, and what the answer says
-pub record IsAnswered (plan : Setting) (n : Node) (ask : Asking) (s : Stepped) : Type 0 where
+pub record IsAnswered (plan : PlanData) (n : Node) (ask : Asking) (s : Stepped) : Type 0 where
   pub gone : IsGone plan n s.node
   pub says : Says n.site n.log s.node.log ask s.reply
 
@@ -141,7 +139,7 @@ commit_own site (Prepare p) h = absurd h
 commit_own site (Commit id time) h = h
 commit_own site (Abort id time cause) h = absurd h
 
-pub kept_entered : (plan : Setting) (n : Node) (p : Transaction) → IsKept plan n → p.id.site ≡ n.site → clock plan n < p.id.time → IsAsked n.log p
+pub kept_entered : (plan : PlanData) (n : Node) (p : Transaction) → IsKept plan n → p.id.site ≡ n.site → clock plan n < p.id.time → IsAsked n.log p
     → IsKept plan (entered plan n p)
 kept_entered plan n p h own above taken = record {
   here = h.here;
@@ -159,7 +157,7 @@ event_is log p ids there c =
     let by_p : prepare_of log p.id ≡ Some p = found_itself log p ids there in
     same_Some c.event.prepare p (sym by_event ∙ ap (prepare_of log) c.named ∙ by_p)
 
-module _ (plan : Setting) (n : Node) (id : TxnId) (ask : Asking) (h : IsKept plan n) (own : id.site ≡ n.site) (above : clock plan n < id.time)
+module _ (plan : PlanData) (n : Node) (id : TxnId) (ask : Asking) (h : IsKept plan n) (own : id.site ≡ n.site) (above : clock plan n < id.time)
     (taken : IsAsked n.log (asked n.log id ask)) where
   unended : finished (n.log ++ Prepare (asked n.log id ask) ∷ []) id ≡ false
   unended = finished_push n.log (Prepare (asked n.log id ask)) id ∙ or_false (finished n.log id)
@@ -214,10 +212,10 @@ follows_asked log id ask none = record {
   writes = All-map (λ w. w.over ≡ current log w.key) (write_at log) ask.puts (λ k d low. refl);
 }
 
-pub next_own_above : (plan : Setting) (n : Node) (reading : ℕ) → clock plan n < next_time plan n reading
+pub next_own_above : (plan : PlanData) (n : Node) (reading : ℕ) → clock plan n < next_time plan n reading
 next_own_above plan n reading = omega arith
 
-clash_answered : (plan : Setting) (n : Node) (reading : ℕ) (ask : Asking) (o : Option Transaction) → IsKept plan n
+clash_answered : (plan : PlanData) (n : Node) (reading : ℕ) (ask : Asking) (o : Option Transaction) → IsKept plan n
     → stale_read n.log ask.reads ≡ None → clash n.log (asked n.log (next_id plan n reading) ask) ≡ o
     → IsAnswered plan n ask (by_clash plan n (asked n.log (next_id plan n reading) ask) o)
 clash_answered plan n reading ask None h fresh none =
@@ -233,7 +231,7 @@ clash_answered plan n reading ask (Some q) h fresh look =
       says = record { other = q; named = refl; logged = prepare_stands n.log q parts.0; open_then = parts.1; conflicts = passes.1 };
     }
 
-stale_answered : (plan : Setting) (n : Node) (reading : ℕ) (ask : Asking) (o : Option ReadItem) → IsKept plan n → stale_read n.log ask.reads ≡ o
+stale_answered : (plan : PlanData) (n : Node) (reading : ℕ) (ask : Asking) (o : Option ReadItem) → IsKept plan n → stale_read n.log ask.reads ≡ o
     → IsAnswered plan n ask (by_stale plan n (asked n.log (next_id plan n reading) ask) o)
 stale_answered plan n reading ask None h fresh =
     clash_answered plan n reading ask (clash n.log (asked n.log (next_id plan n reading) ask)) h fresh refl
@@ -251,27 +249,27 @@ stale_answered plan n reading ask (Some r) h look =
       };
     }
 
-room_answered : (plan : Setting) (n : Node) (reading : ℕ) (ask : Asking) (full : Bool) → IsKept plan n
+room_answered : (plan : PlanData) (n : Node) (reading : ℕ) (ask : Asking) (full : Bool) → IsKept plan n
     → IsAnswered plan n ask (by_room plan n (asked n.log (next_id plan n reading) ask) full)
 room_answered plan n reading ask true h = record { gone = goes_nowhere plan n h; says = tt }
 room_answered plan n reading ask false h = stale_answered plan n reading ask (stale_read n.log ask.reads) h refl
 
 -- the node after an input, and what the answer to it says
-pub record IsStepped (plan : Setting) (n : Node) (input : Input) (s : Stepped) : Type 0 where
+pub record IsStepped (plan : PlanData) (n : Node) (input : Input) (s : Stepped) : Type 0 where
   pub gone : IsGone plan n s.node
   pub says : SaysTo n.site n.log s.node.log input s.reply
 
-clock_answered : (plan : Setting) (n : Node) (reading : ℕ) (input : Input) (spent : Bool) → IsKept plan n
+clock_answered : (plan : PlanData) (n : Node) (reading : ℕ) (input : Input) (spent : Bool) → IsKept plan n
     → IsStepped plan n input (by_clock plan n reading input spent)
 clock_answered plan n reading (Request ask) true h = record { gone = goes_nowhere plan n h; says = tt }
 clock_answered plan n reading (Request ask) false h =
     let a : IsAnswered plan n ask (by_room plan n (asked n.log (next_id plan n reading) ask) (is_full n)) = room_answered plan n reading ask (is_full n) h in
     record { gone = a.gone; says = a.says }
 
-pub step_answered : (plan : Setting) (n : Node) (e : Entry) → IsKept plan n → IsStepped plan n e.input (step plan n e)
+pub step_answered : (plan : PlanData) (n : Node) (e : Entry) → IsKept plan n → IsStepped plan n e.input (step plan n e)
 step_answered plan n e h = clock_answered plan n e.reading e.input (is_journaled e.input && is_spent plan n) h
 
-pub entries_go : (plan : Setting) (n : Node) (entries : List Entry) → IsKept plan n → IsGone plan n (after_entries plan n entries)
+pub entries_go : (plan : PlanData) (n : Node) (entries : List Entry) → IsKept plan n → IsGone plan n (after_entries plan n entries)
 entries_go plan n [] h = goes_nowhere plan n h
 entries_go plan n (e ∷ es) h =
     let first : IsGone plan n (after_entry plan n e) = (step_answered plan n e h).gone in

@@ -1,9 +1,9 @@
 use Rattle.std.proofs.Common.{◌≡◌, ◌≢◌, ◌∙◌, refl, sym, subst, ℕ, ◌+◌, ◌*◌, ◌<◌, ◌≤◌, true, ◌⊎◌, inl, inr, eq-eqb, List, [], ◌∷◌, length, filter, All, Contains, arith}
 use Rattle.std.proofs.lemmas.List.Elements.{All-nil, All-append, All-contains}
 use Rattle.std.proofs.lemmas.Bool.{cases_eq}
-use Rattle.helios_model.specs.declared.record.Record.TheVariants.{Prepare, Commit}
-use Rattle.helios_model.specs.declared.commits.CommitEvent.{CommitEvent}
-use Rattle.helios_model.specs.Setting.{Setting, IsAccepted, count_of, rtt, latency}
+use Rattle.helios_model.specs.declared.records.Record.TheVariants.{Prepare, Commit}
+use Rattle.helios_model.specs.declared.records.CommitEvent.{CommitEvent}
+use Rattle.helios_model.specs.Plans.{PlanData, IsAccepted, count_of, rtt, latency}
 use Rattle.helios_model.specs.Log.{own_time, commits}
 use Rattle.helios_model.specs.Node.{Node, known}
 use Rattle.helios_model.specs.Step.{after_entries}
@@ -22,20 +22,20 @@ use Rattle.helios_model.proofs.LawProofs.ReachedWorlds.{IsReached, gained_own, e
 use Rattle.helios_model.proofs.LawProofs.Unheard.{IsUnheard, node_unheard}
 
 -- as long as sites tell each other nothing, each commit of a log is own
-pub commits_own : (plan : Setting) (w : World) (k : ℕ) → k < count_of plan
+pub commits_own : (plan : PlanData) (w : World) (k : ℕ) → k < count_of plan
     → All (λ e. is_own_commit k e ≡ true) (commits (node_of plan w k).log)
 commits_own plan w k low = all_from (λ e. is_own_commit k e ≡ true) (commits (node_of plan w k).log)
     (λ e there. eq-eqb e.prepare.id.site k (prepare_own plan w k e.prepare low (event_of (node_of plan w k).log e there).prepared))
 
 -- a history of one site alone is the list of the commits of its log
-serial_of_own : (plan : Setting) (w : World) (k : ℕ) → IsReached plan w → k < count_of plan → All (λ e. is_own_commit k e ≡ true) w.history → IsSerial w.history
+serial_of_own : (plan : PlanData) (w : World) (k : ℕ) → IsReached plan w → k < count_of plan → All (λ e. is_own_commit k e ≡ true) w.history → IsSerial w.history
 serial_of_own plan w k h low own =
     let same : w.history ≡ commits (node_of plan w k).log =
     sym (keeps_all (is_own_commit k) w.history own) ∙ h.history.own k low
     ∙ keeps_all (is_own_commit k) (commits (node_of plan w k).log) (commits_own plan w k low) in
     subst IsSerial (sym same) (node_gone plan w k low).kept.serial
 
-history_at : (plan : Setting) (w : World) (site : ℕ) (events : List Event) → AreAt site events → All (λ e. is_own_commit site e ≡ true) w.history
+history_at : (plan : PlanData) (w : World) (site : ℕ) (events : List Event) → AreAt site events → All (λ e. is_own_commit site e ≡ true) w.history
     → All (λ e. is_own_commit site e ≡ true) (run plan w events).history
 history_at plan w site [] at_site own = own
 history_at plan w site (Batch here entries Done ∷ es) at_site own =
@@ -51,7 +51,7 @@ serial_at_one_site plan site low events at_site may =
     (history_at plan (first_world plan) site events at_site (All-nil (λ e. is_own_commit site e ≡ true)))
 
 -- an event of the history is one of its site's log
-pub event_at_home : (plan : Setting) (w : World) (e : CommitEvent) → IsReached plan w → Contains w.history e
+pub event_at_home : (plan : PlanData) (w : World) (e : CommitEvent) → IsReached plan w → Contains w.history e
     → IsEventOf (node_of plan w e.prepare.id.site).log e
 event_at_home plan w e h there =
     let low : e.prepare.id.site < count_of plan = All-contains (λ x. x.prepare.id.site < count_of plan) w.history e h.history.sites there in
@@ -63,7 +63,7 @@ event_at_home plan w e h there =
     (contains_from_filter (is_own_commit e.prepare.id.site) (commits (node_of plan w e.prepare.id.site).log) e moved).0
 
 -- a site that commits and has heard of no other: the time of the id, and the latency, are within each round trip
-waited_alone : (plan : Setting) (w : World) (e : CommitEvent) (j : ℕ) → IsReached plan w → Contains w.history e → j < count_of plan → j ≢ e.prepare.id.site
+waited_alone : (plan : PlanData) (w : World) (e : CommitEvent) (j : ℕ) → IsReached plan w → Contains w.history e → j < count_of plan → j ≢ e.prepare.id.site
     → 1 + latency plan e.prepare.id.site ≤ rtt plan e.prepare.id.site j
 waited_alone plan w e j h there low_j apart =
     let k : ℕ = e.prepare.id.site in
@@ -81,7 +81,7 @@ waited_alone plan w e j h there low_j apart =
     subst (λ s. 1 + latency plan s ≤ rtt plan s j) silent.at_site at_n
 
 -- in an accepted plan two sites that have heard of no other do not both commit
-one_commits : (plan : Setting) (w : World) (e f : CommitEvent) → IsAccepted plan → IsReached plan w → Contains w.history e → Contains w.history f
+one_commits : (plan : PlanData) (w : World) (e f : CommitEvent) → IsAccepted plan → IsReached plan w → Contains w.history e → Contains w.history f
     → f.prepare.id.site ≢ e.prepare.id.site → ⊥
 one_commits plan w e f accepted h at_e at_f apart =
     let i : ℕ = e.prepare.id.site in

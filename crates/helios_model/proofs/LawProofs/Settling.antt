@@ -6,11 +6,11 @@ use Rattle.std.proofs.lemmas.List.FromFn.{length-range_with_len, get_or-range_wi
 use Rattle.std.proofs.lemmas.List.Folds.{list_all_at}
 use Rattle.std.proofs.lemmas.List.Kept.{AllPairs-filter}
 use Rattle.std.proofs.lemmas.Bool.{both_ways, or_from, or_cases, true_from_ne_false, leb-true}
-use Rattle.helios_model.specs.declared.record.Record.{Record}
-use Rattle.helios_model.specs.declared.record.Record.TheVariants.{Prepare, Commit, Abort}
+use Rattle.helios_model.specs.declared.records.Record.{Record}
+use Rattle.helios_model.specs.declared.records.Record.TheVariants.{Prepare, Commit, Abort}
 use Rattle.helios_model.specs.Ids.{same_id}
-use Rattle.helios_model.specs.Transaction.{Transaction}
-use Rattle.helios_model.specs.Setting.{Setting, count_of, rtt, latency}
+use Rattle.helios_model.specs.Transactions.{Transaction}
+use Rattle.helios_model.specs.Plans.{PlanData, count_of, rtt, latency}
 use Rattle.helios_model.specs.Offset.{is_past}
 use Rattle.helios_model.specs.Log.{finished, prepares, prepare_of, unfinished, commits, current}
 use Rattle.helios_model.specs.Node.{Node, known, clock, is_own, own_open, with_record}
@@ -47,26 +47,26 @@ IsCommitOf site (Commit id time) = id.site ≡ site
 IsCommitOf site (Abort id time cause) = ⊥
 
 -- what a node is told before a rule runs: its site is the plan's, and its laws hold, and its commits are a serial history
-pub record IsKept (plan : Setting) (n : Node) : Type 0 where
+pub record IsKept (plan : PlanData) (n : Node) : Type 0 where
   pub here : n.site < count_of plan
   pub placed : IsPlaced plan n.site n
   pub laws : NodeLaws plan n
   pub serial : IsSerial (commits n.log)
 
 -- a node went on by own Commits alone
-pub record IsSettled (plan : Setting) (n m : Node) : Type 0 where
+pub record IsSettled (plan : PlanData) (n m : Node) : Type 0 where
   pub more : List Record
   pub grown : m.log ≡ n.log ++ more
   pub only : All (IsCommitOf n.site) more
   pub same_site : m.site ≡ n.site
   pub kept : IsKept plan m
 
-follows_open : (plan : Setting) (n : Node) (p : Transaction) → NodeLaws plan n → IsOpen n p → Follows (current n.log) p
+follows_open : (plan : PlanData) (n : Node) (p : Transaction) → NodeLaws plan n → IsOpen n p → Follows (current n.log) p
 follows_open plan n p h o =
     let passes = find_passes (λ q. same_id q.id p.id) (prepares n.log) p o.found in
     All-contains (λ q. q.id.site ≡ n.site → Follows (current n.log) q) (unfinished n.log) p h.pool.fits (unfinished_has n.log p passes.0 o.unended) o.own
 
-kept_commit : (plan : Setting) (n : Node) (p : Transaction) → IsKept plan n → IsOpen n p → HasWaited plan n p → IsKept plan (commit_one plan n p.id)
+kept_commit : (plan : PlanData) (n : Node) (p : Transaction) → IsKept plan n → IsOpen n p → HasWaited plan n p → IsKept plan (commit_one plan n p.id)
 kept_commit plan n p h o w = record {
   here = h.here;
   placed = placed_clock plan n.site (with_record n (Commit p.id (clock plan n + 1))) (clock plan n + 1) (record { at_site = refl; sized = h.placed.sized });
@@ -74,7 +74,7 @@ kept_commit plan n p h o w = record {
   serial = serial_commit n.log p.id (clock plan n + 1) p h.laws.pool.backed h.serial o.found o.unended (follows_open plan n p h.laws o);
 }
 
-still_open : (plan : Setting) (n : Node) (p q : Transaction) → same_id p.id q.id ≡ false → IsOpen n q → IsOpen (commit_one plan n p.id) q
+still_open : (plan : PlanData) (n : Node) (p q : Transaction) → same_id p.id q.id ≡ false → IsOpen n q → IsOpen (commit_one plan n p.id) q
 still_open plan n p q apart o = record {
   found = prepare_of_grows n.log (Commit p.id (clock plan n + 1) ∷ []) q.id (ap (λ x. is_some x) o.found) ∙ o.found;
   unended = finished_push n.log (Commit p.id (clock plan n + 1)) q.id ∙ or_from (finished n.log q.id) (same_id p.id q.id) o.unended apart;
@@ -82,13 +82,13 @@ still_open plan n p q apart o = record {
 }
 
 -- own unfinished transactions that have waited, with different ids
-pub record IsReady (plan : Setting) (n : Node) (ps : List Transaction) : Type 0 where
+pub record IsReady (plan : PlanData) (n : Node) (ps : List Transaction) : Type 0 where
   pub opens : All (IsOpen n) ps
   pub waits : All (HasWaited plan n) ps
   pub apart : AllPairs (λ a b. same_id a.id b.id ≡ false) ps
 
 -- after the Commit of the first of them the others are still ready
-pub ready_rest : (plan : Setting) (n : Node) (p : Transaction) (ps : List Transaction) → IsReady plan n (p ∷ ps) → IsReady plan (commit_one plan n p.id) ps
+pub ready_rest : (plan : PlanData) (n : Node) (p : Transaction) (ps : List Transaction) → IsReady plan n (p ∷ ps) → IsReady plan (commit_one plan n p.id) ps
 ready_rest plan n p ps h = record {
   opens = λ k d low. still_open plan n p (get_or ps k d) (pairs_head (λ a b. same_id a.id b.id ≡ false) p ps h.apart k d low) (All-tail (IsOpen n) p ps h.opens k d low);
   waits = λ k d low.
@@ -96,10 +96,10 @@ ready_rest plan n p ps h = record {
   apart = pairs_tail (λ a b. same_id a.id b.id ≡ false) p ps h.apart;
 }
 
-pub kept_first : (plan : Setting) (n : Node) (p : Transaction) (ps : List Transaction) → IsKept plan n → IsReady plan n (p ∷ ps) → IsKept plan (commit_one plan n p.id)
+pub kept_first : (plan : PlanData) (n : Node) (p : Transaction) (ps : List Transaction) → IsKept plan n → IsReady plan n (p ∷ ps) → IsKept plan (commit_one plan n p.id)
 kept_first plan n p ps kept h = kept_commit plan n p kept (All-head (IsOpen n) p ps h.opens) (All-head (HasWaited plan n) p ps h.waits)
 
-commits_go : (plan : Setting) (n : Node) (ps : List Transaction) → IsKept plan n → IsReady plan n ps → IsSettled plan n (fold (commit_one plan) n (map (λ p. p.id) ps))
+commits_go : (plan : PlanData) (n : Node) (ps : List Transaction) → IsKept plan n → IsReady plan n ps → IsSettled plan n (fold (commit_one plan) n (map (λ p. p.id) ps))
 commits_go plan n [] kept h = record {
   more = [];
   grown = sym (append-nil n.log);
@@ -132,7 +132,7 @@ own_open_is n p ids there =
     }
 
 -- a test that all sites but this one pass
-reached_waited : (plan : Setting) (n : Node) (p : Transaction) → is_reached plan n p.id.time ≡ true → HasWaited plan n p
+reached_waited : (plan : PlanData) (n : Node) (p : Transaction) → is_reached plan n p.id.time ≡ true → HasWaited plan n p
 reached_waited plan n p reached j low apart =
     let here : get_or (range_with_len 0 (count_of plan)) j 0 ≡ j = get_or-range_with_len 0 (count_of plan) j 0 low ∙ omega arith in
     let inside : j < length (range_with_len 0 (count_of plan)) = rw (length-range_with_len 0 (count_of plan)) low in
@@ -149,7 +149,7 @@ reached_waited plan n p reached j low apart =
     by_side (inr past) = leb-true (p.id.time + latency plan n.site) (known plan n n.site j + rtt plan n.site j) past
 
 -- what Settle commits is ready
-pub ready_now : (plan : Setting) (n : Node) → IsKept plan n → IsReady plan n (filter (λ p. is_reached plan n p.id.time) (own_open n))
+pub ready_now : (plan : PlanData) (n : Node) → IsKept plan n → IsReady plan n (filter (λ p. is_reached plan n p.id.time) (own_open n))
 ready_now plan n h = record {
   opens = all_from (IsOpen n) (filter (λ p. is_reached plan n p.id.time) (own_open n))
       (λ p there. own_open_is n p h.laws.pool.ids (contains_from_filter (λ q. is_reached plan n q.id.time) (own_open n) p there).0);
@@ -160,5 +160,5 @@ ready_now plan n h = record {
       (AllPairs-filter (λ a b. same_id a.id b.id ≡ false) (λ p. not (finished n.log p.id)) (prepares n.log) h.laws.pool.ids));
 }
 
-pub settle_goes : (plan : Setting) (n : Node) → IsKept plan n → IsSettled plan n (settle plan n)
+pub settle_goes : (plan : PlanData) (n : Node) → IsKept plan n → IsSettled plan n (settle plan n)
 settle_goes plan n h = commits_go plan n (filter (λ p. is_reached plan n p.id.time) (own_open n)) h (ready_now plan n h)

@@ -1,9 +1,9 @@
 use Rattle.std.proofs.Common.{◌≡◌, refl, ℕ, ◌*◌, ◌<◌, ◌≤◌, false, List, [], ◌∷◌, ◌++◌, flat_map, AllPairs, arith}
 use Rattle.std.proofs.lemmas.List.{length-replicate}
 use Rattle.std.proofs.lemmas.List.Elements.{All-nil}
-use Rattle.helios_model.specs.declared.record.Record.TheVariants.{Prepare}
+use Rattle.helios_model.specs.declared.records.Record.TheVariants.{Prepare}
 use Rattle.helios_model.specs.Ids.{same_id}
-use Rattle.helios_model.specs.Setting.{Setting, count_of}
+use Rattle.helios_model.specs.Plans.{PlanData, count_of}
 use Rattle.helios_model.specs.Log.{origin, own_time, current}
 use Rattle.helios_model.specs.Node.{empty_node, known}
 use Rattle.helios_model.specs.Serial.{Follows}
@@ -20,7 +20,7 @@ no_cut : {X : Type 0} (before : List X) (x : X) (after : List X) → [] ≡ befo
 no_cut [] x after e = cc
 no_cut (y ∷ before) x after e = cc
 
-pub kept_empty : (plan : Setting) (k : ℕ) → k < count_of plan → IsKept plan (empty_node plan k)
+pub kept_empty : (plan : PlanData) (k : ℕ) → k < count_of plan → IsKept plan (empty_node plan k)
 kept_empty plan k low = record {
   here = low;
   placed = record { at_site = refl; sized = length-replicate (count_of plan * count_of plan) 0 };
@@ -46,5 +46,5 @@ kept_empty plan k low = record {
 }
 
 -- in every world whatever, a site's node went on from the empty one
-pub node_gone : (plan : Setting) (w : World) (k : ℕ) → k < count_of plan → IsGone plan (empty_node plan k) (node_of plan w k)
+pub node_gone : (plan : PlanData) (w : World) (k : ℕ) → k < count_of plan → IsGone plan (empty_node plan k) (node_of plan w k)
 node_gone plan w k low = entries_go plan (empty_node plan k) (flat_map (λ batch. batch) (journal_of w k)) (kept_empty plan k low)

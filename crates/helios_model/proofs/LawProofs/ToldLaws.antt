@@ -4,15 +4,14 @@ use Rattle.std.proofs.lemmas.List.Elements.{All-weaker, All-contains, Contains-a
 use Rattle.std.proofs.lemmas.Bool.{cond_both}
 use Rattle.helios_model.specs.declared.ids.Version.{Version}
 use Rattle.helios_model.specs.declared.ids.Version.TheVariants.{Initial, Of}
-use Rattle.helios_model.specs.declared.input.Input.{Input}
-use Rattle.helios_model.specs.declared.input.Input.TheVariants.{Request}
-use Rattle.helios_model.specs.declared.reply.Reply.{Reply}
-use Rattle.helios_model.specs.declared.reply.Reply.TheVariants.{Prepared, Committed, Overwritten, Conflict, ClockSpent, PoolFull}
-use Rattle.helios_model.specs.declared.record.Record.{Record}
-use Rattle.helios_model.specs.declared.commits.CommitEvent.{CommitEvent}
-use Rattle.helios_model.specs.Asking.{Asking}
-use Rattle.helios_model.specs.Conflict.{writes_key}
-use Rattle.helios_model.specs.Setting.{Setting, count_of}
+use Rattle.helios_model.specs.declared.entries.Input.{Input}
+use Rattle.helios_model.specs.declared.entries.Input.TheVariants.{Request}
+use Rattle.helios_model.specs.declared.entries.Reply.{Reply}
+use Rattle.helios_model.specs.declared.entries.Reply.TheVariants.{Prepared, Committed, Overwritten, Conflict, ClockSpent, PoolFull}
+use Rattle.helios_model.specs.declared.records.Record.{Record}
+use Rattle.helios_model.specs.declared.records.CommitEvent.{CommitEvent}
+use Rattle.helios_model.specs.Transactions.{Asking, writes_key}
+use Rattle.helios_model.specs.Plans.{PlanData, count_of}
 use Rattle.helios_model.specs.Log.{commits, version_after, current}
 use Rattle.helios_model.specs.NamedAbort.{IsVersionIn, IsNamed, IsNamedTo, ToldIsNamed}
 use Rattle.helios_model.specs.World.{World, Told, first_world, node_of, is_own_commit, run}
@@ -25,7 +24,7 @@ use Rattle.helios_model.proofs.LawProofs.ReachedWorlds.{IsReached, each_reached}
 use Rattle.helios_model.proofs.LawProofs.SerialHistories.{commits_own}
 
 -- an own commit of a log is an event of the history
-in_history : (plan : Setting) (w : World) (k : ℕ) (e : CommitEvent) → IsReached plan w → k < count_of plan
+in_history : (plan : PlanData) (w : World) (k : ℕ) (e : CommitEvent) → IsReached plan w → k < count_of plan
     → Contains (commits (node_of plan w k).log) e → Contains w.history e
 in_history plan w k e h low there =
     let own : is_own_commit k e ≡ true = All-contains (λ x. is_own_commit k x ≡ true) (commits (node_of plan w k).log) e (commits_own plan w k low) there in
@@ -69,7 +68,7 @@ named_says_to : (site : ℕ) (history : List CommitEvent) (before after : List R
     → ((e : CommitEvent) → Contains (commits before) e → Contains history e) → SaysTo site before after input reply → IsNamedTo history before input reply
 named_says_to site history before after (Request ask) reply known h = named_says site history before after ask reply known h
 
-told_is_named : (plan : Setting) (w : World) (t : Told) → IsReached plan w → (t.site < count_of plan) × IsToldIn (node_of plan w t.site).log t → ToldIsNamed plan w t
+told_is_named : (plan : PlanData) (w : World) (t : Told) → IsReached plan w → (t.site < count_of plan) × IsToldIn (node_of plan w t.site).log t → ToldIsNamed plan w t
 told_is_named plan w t h told =
     let front : take t.log_length (node_of plan w t.site).log ≡ told.1.before =
     ap (take t.log_length) told.1.cut ∙ take_at told.1.before told.1.later t.log_length told.1.size in
@@ -107,7 +106,7 @@ stays_to : (site : ℕ) (history : List CommitEvent) (before log : List Record) 
     → ((e : CommitEvent) → Contains (commits log) e → Contains history e) → SaysTo site before log input reply → StaysTo site history log before input reply
 stays_to site history before log (Request ask) reply known h = stays site history before log ask reply known h
 
-told_stays : (plan : Setting) (w : World) (t : Told) → IsReached plan w → (t.site < count_of plan) × IsToldIn (node_of plan w t.site).log t → ToldStays plan w t
+told_stays : (plan : PlanData) (w : World) (t : Told) → IsReached plan w → (t.site < count_of plan) × IsToldIn (node_of plan w t.site).log t → ToldStays plan w t
 told_stays plan w t h told =
     let log : List Record = (node_of plan w t.site).log in
     let front : take t.log_length log ≡ told.1.before = ap (take t.log_length) told.1.cut ∙ take_at told.1.before told.1.later t.log_length told.1.size in

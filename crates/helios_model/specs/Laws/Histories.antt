@@ -1,14 +1,14 @@
 use Rattle.std.specs.Prelude.{◌≡◌, ℕ, ◌<◌, List, [], ◌∷◌, ◌++◌, length, take, filter, All, Contains}
 use Rattle.helios_model.specs.declared.ids.TxnId.{TxnId}
-use Rattle.helios_model.specs.declared.input.Input.{Input}
-use Rattle.helios_model.specs.declared.input.Input.TheVariants.{Request}
-use Rattle.helios_model.specs.declared.reply.Reply.{Reply}
-use Rattle.helios_model.specs.declared.reply.Reply.TheVariants.{Prepared, Committed, Overwritten, Conflict, ClockSpent, PoolFull}
-use Rattle.helios_model.specs.declared.record.Record.{Record}
-use Rattle.helios_model.specs.declared.record.Record.TheVariants.{Prepare}
-use Rattle.helios_model.specs.declared.commits.CommitEvent.{CommitEvent}
-use Rattle.helios_model.specs.Asking.{Asking}
-use Rattle.helios_model.specs.Setting.{Setting, IsAccepted, count_of}
+use Rattle.helios_model.specs.declared.entries.Input.{Input}
+use Rattle.helios_model.specs.declared.entries.Input.TheVariants.{Request}
+use Rattle.helios_model.specs.declared.entries.Reply.{Reply}
+use Rattle.helios_model.specs.declared.entries.Reply.TheVariants.{Prepared, Committed, Overwritten, Conflict, ClockSpent, PoolFull}
+use Rattle.helios_model.specs.declared.records.Record.{Record}
+use Rattle.helios_model.specs.declared.records.Record.TheVariants.{Prepare}
+use Rattle.helios_model.specs.declared.records.CommitEvent.{CommitEvent}
+use Rattle.helios_model.specs.Transactions.{Asking}
+use Rattle.helios_model.specs.Plans.{PlanData, IsAccepted, count_of}
 use Rattle.helios_model.specs.Log.{commits}
 use Rattle.helios_model.specs.Request.{asked}
 use Rattle.helios_model.specs.Serial.{IsSerial}
@@ -24,7 +24,7 @@ AreAt site (Batch here entries ending ∷ events) = (here ≡ site) × AreAt sit
 
 -- where all batches are of one site, the history is a serial one, whatever the plan
 abbrev pub SerialAtOneSite : Type 0
-SerialAtOneSite = (plan : Setting) (site : ℕ) → site < count_of plan → (events : List Event) → AreAt site events
+SerialAtOneSite = (plan : PlanData) (site : ℕ) → site < count_of plan → (events : List Event) → AreAt site events
     → MayRun plan (first_world plan) events → IsSerial (run plan (first_world plan) events).history
 
 -- the history is a serial one in each world of an accepted plan
@@ -32,7 +32,7 @@ abbrev pub HistoryIsSerial : Type 0
 HistoryIsSerial = InEachWorld (λ plan w. IsAccepted plan → IsSerial w.history)
 
 -- the events of each site are, in order, the own Commits of its log, and there are no others
-pub record HistoryIsCommits (plan : Setting) (w : World) : Type 0 where
+pub record HistoryIsCommits (plan : PlanData) (w : World) : Type 0 where
   pub own : (k : ℕ) → k < count_of plan
       → filter (is_own_commit k) w.history ≡ filter (is_own_commit k) (commits (node_of plan w k).log)
   pub sites : All (λ e. e.prepare.id.site < count_of plan) w.history
@@ -68,7 +68,7 @@ StaysTo site history log records (Request ask) reply = Stays site history log re
 
 -- a released reply that a transaction was taken or committed is true of what the site was asked for, over the records that
 -- its log had just before the input
-abbrev pub ToldStays : Setting → World → Told → Type 0
+abbrev pub ToldStays : PlanData → World → Told → Type 0
 ToldStays plan w t = StaysTo t.site w.history (node_of plan w t.site).log (take t.log_length (node_of plan w t.site).log) t.input t.reply
 
 abbrev pub EachToldStays : Type 0
@@ -80,11 +80,11 @@ pub record GrowsTo {X : Type 0} (old new : List X) : Type 0 where
   pub grown : new ≡ old ++ more
 
 -- what is told, committed or logged stays where it is
-pub record WorldGrowsTo (plan : Setting) (w v : World) : Type 0 where
+pub record WorldGrowsTo (plan : PlanData) (w v : World) : Type 0 where
   pub told : GrowsTo w.told v.told
   pub history : GrowsTo w.history v.history
   pub logs : (k : ℕ) → k < count_of plan → GrowsTo (node_of plan w k).log (node_of plan v k).log
 
 abbrev pub EachWorldGrows : Type 0
-EachWorldGrows = (plan : Setting) (w : World) (events : List Event) → length w.journals ≡ count_of plan → MayRun plan w events
+EachWorldGrows = (plan : PlanData) (w : World) (events : List Event) → length w.journals ≡ count_of plan → MayRun plan w events
     → WorldGrowsTo plan w (run plan w events)

@@ -1,12 +1,11 @@
 use Rattle.std.specs.Prelude.{◌≡◌, Bool, true, false, ℕ, ◌<◌, List, ◌∷◌, ◌++◌, All, AllPairs, Contains}
 use Rattle.std.specs.List.{list_any}
 use Rattle.helios_model.specs.declared.ids.TxnId.{TxnId}
-use Rattle.helios_model.specs.declared.record.Record.{Record}
-use Rattle.helios_model.specs.declared.record.Record.TheVariants.{Prepare, Commit, Abort}
+use Rattle.helios_model.specs.declared.records.Record.{Record}
+use Rattle.helios_model.specs.declared.records.Record.TheVariants.{Prepare, Commit, Abort}
 use Rattle.helios_model.specs.Ids.{same_id}
-use Rattle.helios_model.specs.Transaction.{Transaction}
-use Rattle.helios_model.specs.Conflict.{conflict}
-use Rattle.helios_model.specs.Setting.{Setting, count_of}
+use Rattle.helios_model.specs.Transactions.{Transaction, conflict}
+use Rattle.helios_model.specs.Plans.{PlanData, count_of}
 use Rattle.helios_model.specs.Log.{origin, ends, finished, prepares, current}
 use Rattle.helios_model.specs.Node.{Node}
 use Rattle.helios_model.specs.Serial.{Follows}
@@ -20,14 +19,14 @@ abbrev pub EachTimeRises : Type 0
 EachTimeRises = AtEachNode OwnTimesRise
 
 -- each record of the log is the site's own: so it is as long as sites tell each other nothing
-abbrev pub LogIsOwn : Setting → Node → Type 0
+abbrev pub LogIsOwn : PlanData → Node → Type 0
 LogIsOwn plan n = All (λ r. origin r ≡ n.site) n.log
 
 abbrev pub EachLogIsOwn : Type 0
 EachLogIsOwn = AtEachNode LogIsOwn
 
 -- no two Prepares of a log have one id, and a Prepare of an id is the same in each log
-pub record IdsAreGivenOnce (plan : Setting) (w : World) : Type 0 where
+pub record IdsAreGivenOnce (plan : PlanData) (w : World) : Type 0 where
   pub in_log : (k : ℕ) → k < count_of plan → AllPairs (λ p q. same_id p.id q.id ≡ false) (prepares (node_of plan w k).log)
   pub across : (i j : ℕ) → i < count_of plan → j < count_of plan → (p q : Transaction) → Contains (prepares (node_of plan w i).log) p
       → Contains (prepares (node_of plan w j).log) q → p.id ≡ q.id → p ≡ q
@@ -46,7 +45,7 @@ EndsPending before (Commit id time) = IsEnding before id time
 EndsPending before (Abort id time cause) = IsEnding before id time
 
 -- each Commit and Abort ends what is pending, and no two of them end one id
-pub record EndingsFollow (plan : Setting) (n : Node) : Type 0 where
+pub record EndingsFollow (plan : PlanData) (n : Node) : Type 0 where
   pub behind : EachBehind EndsPending n.log
   pub once : AllPairs (λ a b. (id : TxnId) → ends id a ≡ true → ends id b ≡ false) n.log
 
@@ -68,7 +67,7 @@ EndsFirst log p q = (before after : List Record) → log ≡ before ++ Prepare q
 
 -- no Prepare behind an own unfinished one conflicts with it; and of two that conflict, of which the later one is own, or
 -- the earlier one is own and never aborted, the earlier one is ended before the later one is taken
-pub record ConflictsAreOrdered (plan : Setting) (n : Node) : Type 0 where
+pub record ConflictsAreOrdered (plan : PlanData) (n : Node) : Type 0 where
   pub clear : (p : Transaction) → p.id.site ≡ n.site → finished n.log p.id ≡ false → IsClearBehind n.log p
   pub own_later : (p q : Transaction) → q.id.site ≡ n.site → EndsFirst n.log p q
   pub own_earlier : (p q : Transaction) → p.id.site ≡ n.site → aborted n.log p.id ≡ false → EndsFirst n.log p q
@@ -77,7 +76,7 @@ abbrev pub EachConflictIsOrdered : Type 0
 EachConflictIsOrdered = AtEachNode ConflictsAreOrdered
 
 -- as long as sites tell each other nothing, the earlier of two that conflict is ended before the later one is taken
-abbrev pub EarlierEndsFirst : Setting → Node → Type 0
+abbrev pub EarlierEndsFirst : PlanData → Node → Type 0
 EarlierEndsFirst plan n = (p q : Transaction) → EndsFirst n.log p q
 
 abbrev pub EachEarlierEndsFirst : Type 0
@@ -89,13 +88,13 @@ FollowsBefore site before (Commit id time) = Unit {0}
 FollowsBefore site before (Abort id time cause) = Unit {0}
 
 -- where an own transaction is taken, each version that it read or overwrites is the current one
-abbrev pub VersionsWereCurrent : Setting → Node → Type 0
+abbrev pub VersionsWereCurrent : PlanData → Node → Type 0
 VersionsWereCurrent plan n = EachBehind (FollowsBefore n.site) n.log
 
 abbrev pub EachVersionWasCurrent : Type 0
 EachVersionWasCurrent = AtEachNode VersionsWereCurrent
 
-abbrev pub CommitsWaited : Setting → Node → Type 0
+abbrev pub CommitsWaited : PlanData → Node → Type 0
 CommitsWaited plan n = All (IsWaited plan n) n.log
 
 abbrev pub EachCommitWaited : Type 0

@@ -1,5 +1,5 @@
 use Rattle.std.specs.Prelude.{All}
-use Rattle.helios_model.specs.Setting.{Setting, IsAccepted}
+use Rattle.helios_model.specs.Plans.{PlanData, IsAccepted}
 use Rattle.helios_model.specs.World.{World}
 use Rattle.helios_model.specs.Serial.{IsSerial}
 use Rattle.helios_model.specs.NamedAbort.{ToldIsNamed}
@@ -8,7 +8,7 @@ use Rattle.helios_model.specs.Laws.Histories.{ToldStays}
 
 -- what a client may rely on: the commits are a serial history that gives every version read, each refusal names what stood
 -- in its way, and what was told of a transaction that was taken or committed is true
-pub record IsSafe (plan : Setting) (w : World) : Type 0 where
+pub record IsSafe (plan : PlanData) (w : World) : Type 0 where
   pub serial : IsSerial w.history
   pub named : All (ToldIsNamed plan w) w.told
   pub stays : All (ToldStays plan w) w.told

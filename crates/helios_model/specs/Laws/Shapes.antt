@@ -1,5 +1,5 @@
 use Rattle.std.specs.Prelude.{◌≡◌, ◌<◌, List, ◌∷◌, ◌++◌, AllPairs}
-use Rattle.helios_model.specs.declared.record.Record.{Record}
+use Rattle.helios_model.specs.declared.records.Record.{Record}
 use Rattle.helios_model.specs.Log.{origin, own_time}
 
 -- what holds of each record with the records before it

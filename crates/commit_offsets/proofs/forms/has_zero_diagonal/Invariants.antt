@@ -1,5 +1,5 @@
 use Rattle.std.proofs.Common.{◌≡◌, ℕ, ◌<◌, true, nat_eq}
-use Rattle.helios_model.specs.Setting.{trip_at}
+use Rattle.helios_model.specs.Plans.{trip_at}
 use Rattle.commit_offsets.proofs.forms.has_zero_diagonal.Given as goal
 
 abbrev pub invariant-loop-i : goal.invariant-loop-i

@@ -1,7 +1,7 @@
 use Rattle.std.proofs.Common.{◌≡◌, map}
 use Rattle.std.specs.List.{range_with_len}
 use Rattle.helios_model.specs.Offset.{offset}
-use Rattle.helios_model.specs.Setting.{count_of}
+use Rattle.helios_model.specs.Plans.{count_of}
 use Rattle.serde_json.specs.View.{view}
 use Rattle.commit_offsets.specs.Printing.{row_data, signed}
 use Rattle.commit_offsets.proofs.values.offsets.Given as goal

@@ -1,6 +1,6 @@
 use Rattle.std.proofs.Common.{◌≡◌, map}
 use Rattle.std.specs.List.{range_with_len}
-use Rattle.helios_model.specs.Setting.{count_of, rtt}
+use Rattle.helios_model.specs.Plans.{count_of, rtt}
 use Rattle.serde_json.specs.View.{view}
 use Rattle.commit_offsets.specs.Printing.{row_data, whole}
 use Rattle.commit_offsets.proofs.values.trips.Given as goal

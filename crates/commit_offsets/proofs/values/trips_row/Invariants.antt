@@ -1,6 +1,6 @@
 use Rattle.std.proofs.Common.{◌≡◌, map}
 use Rattle.std.specs.List.{range_with_len}
-use Rattle.helios_model.specs.Setting.{rtt}
+use Rattle.helios_model.specs.Plans.{rtt}
 use Rattle.serde_json.specs.View.{view}
 use Rattle.commit_offsets.specs.Printing.{whole}
 use Rattle.commit_offsets.proofs.values.trips_row.Given as goal

@@ -1,5 +1,5 @@
 use Rattle.std.proofs.Common.{ℕ, ◌<◌}
-use Rattle.helios_model.specs.Setting.{count_of}
+use Rattle.helios_model.specs.Plans.{count_of}
 use Rattle.plan_certificate.specs.Verdict.{IsRowReached}
 use Rattle.plan_certificate.proofs.short.first_short.Given as goal
 

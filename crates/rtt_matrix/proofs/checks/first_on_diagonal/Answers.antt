@@ -1,6 +1,6 @@
 use Rattle.std.proofs.Common.{rules}
 use Rattle.std.specs.Prelude.{◌==◌, not}
-use Rattle.helios_model.specs.Setting.{trip_at}
+use Rattle.helios_model.specs.Plans.{trip_at}
 use Rattle.rtt_matrix.proofs.FirstPlaces.{found_below}
 use Rattle.rtt_matrix.proofs.checks.first_on_diagonal.Goals as goal
 

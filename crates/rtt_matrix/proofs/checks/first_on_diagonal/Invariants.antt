@@ -1,6 +1,6 @@
 use Rattle.std.proofs.Common.{◌≡◌, ℕ, ◌<◌, false}
 use Rattle.std.specs.Prelude.{◌==◌, not}
-use Rattle.helios_model.specs.Setting.{trip_at}
+use Rattle.helios_model.specs.Plans.{trip_at}
 use Rattle.rtt_matrix.proofs.checks.first_on_diagonal.Given as goal
 
 abbrev pub invariant-loop-i : goal.invariant-loop-i

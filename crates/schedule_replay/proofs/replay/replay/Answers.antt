@@ -1,9 +1,7 @@
-use Rattle.std.proofs.Common.{◌≤◌, length, refl, arith, ap, ◌∙◌}
-use Rattle.std.proofs.Common.{subst, sym}
+use Rattle.std.proofs.Common.{◌≤◌, length, refl, arith, ap, ◌∙◌, subst, sym, ◌++◌}
 use Rattle.std.specs.List.{flat_map}
 use Rattle.helios_model.specs.Serial.{IsSerial}
 use Rattle.schedule_replay.proofs.Reaches.{reached_safe}
-use Rattle.std.proofs.Common.{◌++◌}
 use Rattle.schedule_replay.specs.Report.{commit_line, site_line}
 use Rattle.schedule_replay.proofs.Stands.{report_at_end, stand_first}
 use Rattle.schedule_replay.proofs.replay.replay.Goals as goal

@@ -1,11 +1,81 @@
-ghost use Rattle.std.specs.Prelude.{◌≡◌, ℕ, ◌<◌, ◌≤◌, ◌*◌, [], length, IfOk, slice_index_or};
-ghost use Rattle.helios_model.specs.Setting.{IsMatrix, IsPlan, count_of, trip_at, rtt, latency};
+//! Names of sites, matrices of round trips, and plans with their certificates.
+ghost use Rattle.std.specs.Prelude.{◌≡◌, ℕ, List, IfOk, string_bytes, ◌<◌, ◌≤◌, ◌*◌, [], length, slice_index_or};
+ghost use Rattle.helios_model.specs.Plans.{IsMatrix, IsPlan, count_of, trip_at, rtt, latency};
 
 use crate::ids::SiteId;
-use crate::names::Names;
 use crate::numbers::{Places, Times};
 use std::alloc::AllocError;
 use std::marker::Model;
+
+/// The name of a site.
+#[derive(Clone, Debug, Drop)]
+pub struct Name {
+    text: String,
+}
+
+impl Model for Name {
+    ghost Value = { List ℕ };
+
+    ghost view = { λ n. string_bytes n.text };
+}
+
+impl Name {
+    pub fn new(text: String) -> Name
+        ensures { result ≡ string_bytes text }
+    {
+        Name { text }
+    }
+
+    pub fn text(&self) -> &str
+        ensures { result.now ≡ self.now }
+    {
+        self.text.as_str()
+    }
+
+    pub fn copy(&self) -> Result<Name, AllocError>
+        ensures { IfOk result (λ copied. copied ≡ self.now) }
+    {
+        self.clone()
+    }
+}
+
+/// The names of the sites, in the order of their numbers.
+#[derive(Clone, Debug, Drop)]
+pub struct Names {
+    items: Vec<Name>,
+}
+
+impl Model for Names {
+    ghost Value = { List (List ℕ) };
+
+    ghost view = { λ n. n.items.items };
+}
+
+impl Names {
+    pub fn new(items: Vec<Name>) -> Names
+        ensures { result ≡ items.items }
+    {
+        Names { items }
+    }
+
+    pub fn items(&self) -> &[Name]
+        ensures { result.now ≡ self.now }
+    {
+        self.items.as_slice()
+    }
+
+    pub fn into_items(self) -> Vec<Name>
+        ensures { result.items ≡ self }
+    {
+        self.items
+    }
+
+    pub fn copy(&self) -> Result<Names, AllocError>
+        ensures { IfOk result (λ copied. copied ≡ self.now) }
+    {
+        self.clone()
+    }
+}
 
 /// The sites of a cluster and the round trips between them, in microseconds: 1 to 32 distinct names, symmetric, 0 on
 /// the diagonal, none over 1,000,000,000.
@@ -16,9 +86,9 @@ pub struct Matrix {
 }
 
 impl Model for Matrix {
-    ghost use Rattle.helios_model.specs.Setting.{Distances, IsMatrix};
+    ghost use Rattle.helios_model.specs.Plans.{MatrixData, IsMatrix};
 
-    ghost Value = { Distances };
+    ghost Value = { MatrixData };
 
     ghost view = { λ m. record { names = m.names; trips = m.rtt } };
 
@@ -81,9 +151,9 @@ pub struct Plan {
 }
 
 impl Model for Plan {
-    ghost use Rattle.helios_model.specs.Setting.{Setting, IsPlan};
+    ghost use Rattle.helios_model.specs.Plans.{PlanData, IsPlan};
 
-    ghost Value = { Setting };
+    ghost Value = { PlanData };
 
     ghost view = { λ p. record { names = p.names; trips = p.rtt; latencies = p.latency } };
 

@@ -1,29 +1,30 @@
+-- Matrices of round trips and plans: what they hold, and which are within the limits and accepted.
 use Rattle.std.specs.Prelude.{◌≡◌, ◌≢◌, ℕ, ◌+◌, ◌*◌, ◌<◌, ◌≤◌, List, length, All, IsTrue, slice_index}
-use Rattle.helios_model.specs.Limits.{IsName, most_sites, longest_trip, greatest_latency}
-use Rattle.helios_model.specs.Distinct.{all_differ}
+use Rattle.helios_model.specs.Texts.{IsName, all_differ}
+use Rattle.helios_model.specs.Limits.{most_sites, longest_trip, greatest_latency}
 
 -- the sites by name, and the round trips between them in microseconds, row after row
-pub record Distances : Type 0 where
+pub record MatrixData : Type 0 where
   pub names : List (List ℕ)
   pub trips : List ℕ
 
 -- the same with each site's commit latency in half microseconds
-pub record Setting : Type 0 where
+pub record PlanData : Type 0 where
   pub names : List (List ℕ)
   pub trips : List ℕ
   pub latencies : List ℕ
 
-abbrev pub count_of : Setting → ℕ
+abbrev pub count_of : PlanData → ℕ
 count_of plan = length plan.names
 
 -- the round trip between two sites of so many, in microseconds
 abbrev pub trip_at : ℕ → List ℕ → ℕ → ℕ → ℕ
 trip_at count trips i j = slice_index trips (i * count + j)
 
-abbrev pub rtt : Setting → ℕ → ℕ → ℕ
+abbrev pub rtt : PlanData → ℕ → ℕ → ℕ
 rtt plan i j = trip_at (count_of plan) plan.trips i j
 
-abbrev pub latency : Setting → ℕ → ℕ
+abbrev pub latency : PlanData → ℕ → ℕ
 latency plan i = slice_index plan.latencies i
 
 -- sites and round trips within the limits: distinct names, symmetric, 0 on the diagonal
@@ -44,6 +45,6 @@ pub record IsPlan (names : List (List ℕ)) (trips latencies : List ℕ) : Type 
   pub bounded : All (λ half_micros. half_micros ≤ greatest_latency) latencies
 
 -- a plan in which any two sites' latencies together reach their round trip, there and back in half microseconds
-pub record IsAccepted (plan : Setting) : Type 0 where
+pub record IsAccepted (plan : PlanData) : Type 0 where
   pub limits : IsPlan plan.names plan.trips plan.latencies
   pub reached : (i j : ℕ) → i < count_of plan → j < count_of plan → i ≢ j → 2 * rtt plan i j ≤ latency plan i + latency plan j

@@ -1,11 +1,27 @@
+//! What a node is asked, and what it answers.
 ghost use Rattle.std.specs.Prelude.{◌≡◌, ℕ, List, IfOk};
-ghost use Rattle.helios_model.specs.declared.input.Entry.{Entry};
-ghost use Rattle.helios_model.specs.declared.reply.Reply.{Reply};
+ghost use Rattle.helios_model.specs.declared.entries.Entry.{Entry};
+ghost use Rattle.helios_model.specs.declared.entries.Reply.{Reply};
 
-use crate::input::Entry;
-use crate::reply::Reply;
+use crate::ids::{TxnId, Version};
+use crate::keys::Key;
+use crate::transactions::Ask;
 use std::alloc::AllocError;
 use std::marker::Model;
+
+/// What a node is asked.
+#[derive(Clone, Debug, Drop)]
+pub enum Input {
+    /// To take a transaction.
+    Request(Ask),
+}
+
+/// An input, and the reading of the site's clock that it is answered at, in half microseconds.
+#[derive(Clone, Debug, Drop)]
+pub struct Entry {
+    pub reading: u64,
+    pub input: Input,
+}
 
 /// The inputs of a batch with the clock's readings, in their order.
 #[derive(Clone, Debug, Drop)]
@@ -37,6 +53,33 @@ impl Entries {
     {
         self.items
     }
+}
+
+/// What is known of a transaction at its site.
+#[derive(Clone, Copy, Debug, PartialEq, Eq)]
+pub enum State {
+    Pending,
+    Committed,
+    /// It was aborted, since it conflicts with this transaction.
+    Aborted(TxnId),
+    Unknown,
+}
+
+/// A node's answer to an input.
+#[derive(Clone, Debug, PartialEq, Eq, Drop)]
+pub enum Reply {
+    /// The transaction was taken under this name, and is not decided yet.
+    Prepared(TxnId),
+    /// The transaction was taken under this name, and is committed.
+    Committed(TxnId),
+    /// The first read whose version is not the current one.
+    Overwritten { key: Key, current: Version },
+    /// The first unfinished transaction that conflicts.
+    Conflict(TxnId),
+    /// The site's clock has come to its end; nothing changed.
+    ClockSpent,
+    /// The site has as many unfinished transactions as it may have; nothing changed.
+    PoolFull,
 }
 
 /// The answers to the inputs of a batch, in their order.
