@@ -22,7 +22,7 @@ use Rattle.helios_model.specs.Laws.Order.{IsAsked}
 use Rattle.helios_model.specs.Laws.Ceiling.{StaysBelow, EachNodeStaysBelow}
 use Rattle.helios_model.proofs.LawProofs.Lists.{filter_twice, contains_cases, contains_filter, find_passes, find_none}
 use Rattle.helios_model.proofs.LawProofs.Ids.{same_id_itself}
-use Rattle.helios_model.proofs.LawProofs.Push.{unfinished_end, unfinished_prepare, unfinished_has}
+use Rattle.helios_model.proofs.LawProofs.OneMore.{unfinished_end, unfinished_prepare, unfinished_has}
 use Rattle.helios_model.proofs.LawProofs.PoolSteps.{fresh_unended}
 use Rattle.helios_model.proofs.LawProofs.NodeSteps.{IsOpen, known_own, new_id}
 use Rattle.helios_model.proofs.LawProofs.Settling.{IsKept, IsReady, kept_first, ready_rest, ready_now}

@@ -17,7 +17,7 @@ use Rattle.helios_model.specs.Laws.Nodes.{NodeLaws}
 use Rattle.helios_model.specs.Laws.Logs.{EachTimeRises, EachLogIsOwn, IdsAreGivenOnce, EachIdIsGivenOnce, EndsPending, EndingsFollow, EachEndingFollows, aborts, aborted, EndsFirst, EachConflictIsOrdered, EachEarlierEndsFirst, FollowsBefore, VersionsWereCurrent, EachVersionWasCurrent, EachCommitWaited}
 use Rattle.helios_model.proofs.LawProofs.Lists.{contains_cases, any_from, some_of, find_passes, pairs_cases}
 use Rattle.helios_model.proofs.LawProofs.Ids.{same_id_is, same_id_of}
-use Rattle.helios_model.proofs.LawProofs.Push.{prepare_stands, unfinished_has}
+use Rattle.helios_model.proofs.LawProofs.OneMore.{prepare_stands, unfinished_has}
 use Rattle.helios_model.proofs.LawProofs.Fits.{conflict_back}
 use Rattle.helios_model.proofs.LawProofs.OrderSteps.{cut_prepared}
 use Rattle.helios_model.proofs.LawProofs.Requests.{IsGone}

@@ -30,7 +30,7 @@ use Rattle.helios_model.specs.Laws.Order.{IsAsked}
 use Rattle.helios_model.proofs.LawProofs.Placed.{placed_entered}
 use Rattle.helios_model.proofs.LawProofs.Lists.{or_false, some_of, find_passes, find_none, contains_filter_map}
 use Rattle.helios_model.proofs.LawProofs.Ids.{same_id_is, same_version_is, same_version_of}
-use Rattle.helios_model.proofs.LawProofs.Push.{finished_push, unfinished_is, prepare_stands}
+use Rattle.helios_model.proofs.LawProofs.OneMore.{finished_one_more, unfinished_is, prepare_stands}
 use Rattle.helios_model.proofs.LawProofs.Committed.{IsEventOf, event_of, commits_prepare}
 use Rattle.helios_model.proofs.LawProofs.PoolSteps.{fresh_unended}
 use Rattle.helios_model.proofs.LawProofs.OrderSteps.{cut_prepared}
@@ -160,7 +160,7 @@ event_is log p ids there c =
 module _ (plan : PlanData) (n : Node) (id : TxnId) (ask : Asking) (h : IsKept plan n) (own : id.site ≡ n.site) (above : clock plan n < id.time)
     (taken : IsAsked n.log (asked n.log id ask)) where
   unended : finished (n.log ++ Prepare (asked n.log id ask) ∷ []) id ≡ false
-  unended = finished_push n.log (Prepare (asked n.log id ask)) id ∙ or_false (finished n.log id)
+  unended = finished_one_more n.log (Prepare (asked n.log id ask)) id ∙ or_false (finished n.log id)
       ∙ fresh_unended n.log id h.laws.pool.backed (new_id plan n id h.laws.times own above)
 
   -- the node after Settle

@@ -14,7 +14,7 @@ use Rattle.helios_model.specs.World.Ending.{Done}
 use Rattle.helios_model.specs.Laws.Nodes.{IsWaited}
 use Rattle.helios_model.specs.Laws.Histories.{AreAt, SerialAtOneSite, HistoryIsSerial}
 use Rattle.helios_model.proofs.LawProofs.Lists.{all_from, keeps_all, contains_here, contains_filter, contains_from_filter}
-use Rattle.helios_model.proofs.LawProofs.Push.{prepare_stands}
+use Rattle.helios_model.proofs.LawProofs.OneMore.{prepare_stands}
 use Rattle.helios_model.proofs.LawProofs.Committed.{IsEventOf, event_of}
 use Rattle.helios_model.proofs.LawProofs.Starts.{node_gone}
 use Rattle.helios_model.proofs.LawProofs.LogLaws.{node_laws, prepare_own}

@@ -13,8 +13,8 @@ use Rattle.helios_model.specs.Transactions.{Transaction}
 use Rattle.helios_model.specs.Log.{ends, finished, prepare_in, prepares, prepare_of, unfinished}
 use Rattle.helios_model.proofs.LawProofs.Lists.{or_false, not_or, filter_twice, contains_filter, contains_from_filter, contains_from_filter_map}
 
-pub finished_push : (log : List Record) (r : Record) (id : TxnId) → finished (log ++ r ∷ []) id ≡ (finished log id || ends id r)
-finished_push log r id = list_any-append (ends id) log (r ∷ []) ∙ ap (λ b. finished log id || b) (or_false (ends id r))
+pub finished_one_more : (log : List Record) (r : Record) (id : TxnId) → finished (log ++ r ∷ []) id ≡ (finished log id || ends id r)
+finished_one_more log r id = list_any-append (ends id) log (r ∷ []) ∙ ap (λ b. finished log id || b) (or_false (ends id r))
 
 pub finished_grown : (log more : List Record) (id : TxnId) → finished log id ≡ true → finished (log ++ more) id ≡ true
 finished_grown log more id h = list_any-append (ends id) log more ∙ or_left (finished log id) (finished more id) h
@@ -50,7 +50,7 @@ pub unfinished_end : (log : List Record) (r : Record) → prepare_in r ≡ None
 unfinished_end log r e =
     ap (filter (λ p. not (finished (log ++ r ∷ []) p.id))) (prepares_end log r e)
     ∙ filter_agree (λ p. not (finished (log ++ r ∷ []) p.id)) (λ p. not (finished log p.id) && not (ends p.id r))
-    (λ p. ap not (finished_push log r p.id) ∙ not_or (finished log p.id) (ends p.id r)) (prepares log)
+    (λ p. ap not (finished_one_more log r p.id) ∙ not_or (finished log p.id) (ends p.id r)) (prepares log)
     ∙ sym (filter_twice (λ p. not (ends p.id r)) (λ p. not (finished log p.id)) (prepares log))
 
 -- a Prepare with no Commit or Abort is unfinished
@@ -60,7 +60,7 @@ unfinished_prepare log p fresh =
     let kept : filter (λ q. not (finished log q.id)) (p ∷ []) ≡ p ∷ [] = rw fresh refl in
     ap (filter (λ q. not (finished (log ++ Prepare p ∷ []) q.id))) (prepares_prepare log p)
     ∙ filter_agree (λ q. not (finished (log ++ Prepare p ∷ []) q.id)) (λ q. not (finished log q.id))
-    (λ q. ap not (finished_push log (Prepare p) q.id ∙ or_false (finished log q.id))) (prepares log ++ p ∷ [])
+    (λ q. ap not (finished_one_more log (Prepare p) q.id ∙ or_false (finished log q.id))) (prepares log ++ p ∷ [])
     ∙ filter-append (λ q. not (finished log q.id)) (prepares log) (p ∷ [])
     ∙ ap (λ ps. unfinished log ++ ps) kept
 
