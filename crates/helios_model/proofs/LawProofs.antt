@@ -20,3 +20,4 @@ pub mod SerialHistories
 pub mod ToldLaws
 pub mod Safe
 pub mod Ceilings
+pub mod Spelling

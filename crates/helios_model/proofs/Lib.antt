@@ -3,3 +3,4 @@ pub mod Offsets
 pub mod LawProofs
 pub mod PlanLimits
 pub mod FirstBelow
+pub mod Overlaps

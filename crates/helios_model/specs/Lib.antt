@@ -2,6 +2,7 @@ pub mod Limits
 pub mod Texts
 pub mod Ids
 pub mod Transactions
+pub mod Spellable
 pub mod Plans
 pub mod Offset
 pub mod Optimal
