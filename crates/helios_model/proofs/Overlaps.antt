@@ -4,7 +4,7 @@ use Rattle.std.specs.List.{list_any}
 use Rattle.helios_model.specs.Texts.{same_text, contains_text}
 use Rattle.helios_model.specs.Transactions.{keys_overwrite, keys_conflict}
 
-any_mapped : {X Y : Type 0} (f : X → Y) (p : Y → Bool) (xs : List X) → list_any (λ x. p (f x)) xs ≡ list_any p (map f xs)
+pub any_mapped : {X Y : Type 0} (f : X → Y) (p : Y → Bool) (xs : List X) → list_any (λ x. p (f x)) xs ≡ list_any p (map f xs)
 any_mapped f p [] = refl
 any_mapped f p (x ∷ xs) = ap (λ b. p (f x) || b) (any_mapped f p xs)
 

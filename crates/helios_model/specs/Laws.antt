@@ -11,3 +11,4 @@ pub mod Safe
 pub mod Ceiling
 pub mod Times
 pub mod Symmetry
+pub mod Moves

@@ -1,5 +1,5 @@
 -- Worlds: what all sites have journaled, told and committed, and the steps from one world to the next.
-use Rattle.std.specs.Prelude.{Bool, ℕ, ◌<◌, ◌≤◌, List, [], ◌∷◌, ◌++◌, length, nat_eq, filter, replicate, slice_index_or, slice_set, drop, fold, All}
+use Rattle.std.specs.Prelude.{◌≡◌, Bool, ℕ, ◌<◌, ◌≤◌, List, [], ◌∷◌, ◌++◌, length, nat_eq, filter, replicate, slice_index_or, slice_set, drop, fold, All}
 use Rattle.std.specs.List.{filter_map, flat_map}
 use Rattle.helios_model.specs.declared.entries.Entry.{Entry}
 use Rattle.helios_model.specs.declared.entries.Input.{Input}
@@ -96,3 +96,9 @@ run plan w events = fold (happens plan) w events
 abbrev pub MayRun : PlanData → World → List Event → Type 0
 MayRun plan w [] = Unit {0}
 MayRun plan w (e ∷ es) = MayHappen plan w e × MayRun plan (happens plan w e) es
+
+-- permitted steps reach this world from the first one
+pub record StepsReach (plan : PlanData) (w : World) : Type 0 where
+  pub events : List Event
+  pub may : MayRun plan (first_world plan) events
+  pub reach : w ≡ run plan (first_world plan) events

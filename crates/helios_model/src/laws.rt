@@ -5,6 +5,7 @@ ghost use Rattle.helios_model.specs.Laws.Placed.{EachNodeIsPlaced};
 ghost use Rattle.helios_model.specs.Laws.Ceiling.{EachNodeStaysBelow};
 ghost use Rattle.helios_model.specs.Laws.Logs.{EachTimeRises, EachLogIsOwn, EachIdIsGivenOnce, EachEndingFollows, EachConflictIsOrdered, EachEarlierEndsFirst, EachVersionWasCurrent, EachCommitWaited};
 ghost use Rattle.helios_model.specs.Laws.Safe.{EachWorldIsSafe};
+ghost use Rattle.helios_model.specs.Laws.Moves.{BatchMovesOneNode};
 ghost use Rattle.helios_model.specs.Laws.Symmetry.{ConflictIsSymmetric};
 ghost use Rattle.helios_model.specs.Laws.Times.{AskedIsTransaction, EachEntryMayBeAsked, EachRecordIsSpellable, EachReplyIsSpellable, EachTableIsSmall};
 ghost use Rattle.helios_model.specs.Laws.Histories.{SerialAtOneSite, HistoryIsSerial, EachHistoryIsCommits, EachRefusalIsNamed, EachToldStays, EachWorldGrows};
@@ -28,6 +29,11 @@ pub fn asked_is_transaction()
 /// and a table with one time for each two sites.
 pub fn each_node_is_placed()
     ensures { EachNodeIsPlaced }
+{}
+
+/// A batch moves its own site's node by its entries, and no other node; each site has its journal from the first world on.
+pub fn batch_moves_one_node()
+    ensures { BatchMovesOneNode }
 {}
 
 /// In each site's log the own times of each origin rise strictly from above 0, and each is at most the time that the

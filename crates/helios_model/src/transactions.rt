@@ -6,7 +6,7 @@ ghost use Rattle.helios_model.specs.declared.transactions.ReadItem.{ReadItem};
 ghost use Rattle.helios_model.specs.declared.transactions.WriteItem.{WriteItem};
 ghost use Rattle.std.specs.List.{list_any};
 ghost use Rattle.helios_model.specs.Texts.{contains_text, all_differ, same_text};
-ghost use Rattle.helios_model.specs.Transactions.{IsTransaction, IsAsk, conflict, keys_conflict, touched_by, touched_by_ask};
+ghost use Rattle.helios_model.specs.Transactions.{IsTransaction, IsAsk, conflict, keys_conflict, touched_by, touched_by_ask, writes_key};
 
 use crate::ids::{TxnId, Version};
 use crate::keys::{Key, Val};
@@ -288,6 +288,12 @@ impl Prepare {
         ensures limits { IsTransaction self.now.reads self.now.writes }
     {
         &self.writes
+    }
+
+    pub fn is_writing(&self, key: &Key) -> bool
+        ensures { result ≡ writes_key self.now key.now }
+    {
+        is_among(self.writes().items(), key)
     }
 
     pub fn copy(&self) -> Result<Prepare, AllocError>

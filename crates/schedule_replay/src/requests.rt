@@ -1,21 +1,54 @@
-// The rules of a request, in their order.
-ghost use Rattle.std.specs.Prelude.{◌≡◌, ◌+◌, ◌^◌, ◌<◌, false, IfOk, map};
+//! The rules of a request, in their order.
+ghost use Rattle.std.specs.Prelude.{◌≡◌, ◌+◌, ◌^◌, ◌<◌, IfOk, map};
 ghost use Rattle.helios_model.specs.Node.{clock, next_time};
-ghost use Rattle.helios_model.specs.Request.{accept, asked, by_clash, by_room, by_stale, is_full, next_id, request, write_at};
+ghost use Rattle.helios_model.specs.Request.{accept, asked, clash_refusal, next_id, refusal, request, stale_refusal, write_at};
 ghost use Rattle.helios_model.specs.Step.{step};
 
 use crate::node::Core;
 use crate::scan::{current_version, first_clash, first_stale, is_finished};
+use helios_model::laws::asked_is_transaction;
 use helios_model::{
-    Ask, Entry, Input, Prepare, PutItem, Record, Reply, Time, TxnId, WriteItem, Writes,
+    Ask, Entry, Input, LAST_READING, MOST_OPEN, Prepare, PutItem, Record, Reply, SPENT_TIME, Time, TxnId,
+    WriteItem, Writes,
 };
 use std::alloc::{AllocError, Global};
 
-const LAST_READING: u64 = 4_611_686_018_427_125_760;
+/// Names the current version of the first read that is stale.
+fn stale_refusal(log: &[Record], ask: &Ask) -> Result<Option<Reply>, AllocError>
+    ensures { IfOk result (λ found. found ≡ stale_refusal log.now ask.now) }
+{
+    match first_stale(log, ask.reads().items()) {
+        Some(read) => {
+            let key = read.key.copy()?;
+            let current = current_version(log, &read.key);
+            Ok(Some(Reply::Overwritten { key, current }))
+        }
+        None => Ok(None),
+    }
+}
 
-const SPENT_TIME: u64 = 4_611_686_018_427_256_832;
+/// Names the first open transaction that conflicts with what is asked.
+fn clash_refusal(log: &[Record], ask: &Ask) -> Option<Reply>
+    ensures { result ≡ clash_refusal log.now ask.now }
+{
+    match first_clash(log, ask) {
+        Some(q) => Some(Reply::Conflict(q.id())),
+        None => None,
+    }
+}
 
-const MOST_OPEN: u64 = 65_536;
+/// Why a request is refused, by the first rule that applies.
+fn refusal(core: &Core, ask: &Ask) -> Result<Option<Reply>, AllocError>
+    ensures { IfOk result (λ found. found ≡ refusal core.now.node ask.now) }
+{
+    if core.pending() >= MOST_OPEN {
+        return Ok(Some(Reply::PoolFull));
+    }
+    match stale_refusal(core.log(), ask)? {
+        Some(reply) => Ok(Some(reply)),
+        None => Ok(clash_refusal(core.log(), ask)),
+    }
+}
 
 fn write_over(log: &[Record], put: &PutItem) -> Result<WriteItem, AllocError>
     ensures { IfOk result (λ w. w ≡ write_at log.now put.now) }
@@ -53,7 +86,6 @@ fn next_name(core: &Core, reading: u64) -> TxnId
     }
 }
 
-#[tactic(auto, using(crate::proofs::Limits::is_transaction))]
 fn transaction_for(
     alloc: Global,
     core: &Core,
@@ -64,6 +96,7 @@ fn transaction_for(
     ensures asked { IfOk result (λ p. p ≡ asked core.now.node.log (next_id core.now.plan core.now.node reading) ask.now) }
     ensures small { IfOk result (λ p. p.id.time < 2 ^ 63) }
 {
+    asked_is_transaction();
     let reads = ask.reads().copy()?;
     let writes = Writes::new(writes_over(alloc, core.log(), ask.puts().items())?);
     let id = next_name(core, reading);
@@ -85,32 +118,6 @@ fn accept_asked(alloc: Global, core: &mut Core, p: Prepare) -> Result<Reply, All
     }
 }
 
-fn accept_unless_clashing(alloc: Global, core: &mut Core, p: Prepare) -> Result<Reply, AllocError>
-    requires { p.id.time < 2 ^ 63 }
-    ensures answer { IfOk result (λ reply. by_stale core.old.plan core.old.node p None ≡ record { reply = reply; node = core.new.node }) }
-    ensures plan { IfOk result (λ _. core.new.plan ≡ core.old.plan) }
-{
-    match first_clash(core.log(), &p) {
-        Some(q) => Ok(Reply::Conflict(q.id())),
-        None => accept_asked(alloc, core, p),
-    }
-}
-
-fn accept_unless_stale(alloc: Global, core: &mut Core, p: Prepare) -> Result<Reply, AllocError>
-    requires { p.id.time < 2 ^ 63 }
-    ensures answer { IfOk result (λ reply. by_room core.old.plan core.old.node p false ≡ record { reply = reply; node = core.new.node }) }
-    ensures plan { IfOk result (λ _. core.new.plan ≡ core.old.plan) }
-{
-    match first_stale(core.log(), p.reads().items()) {
-        Some(read) => {
-            let key = read.key.copy()?;
-            let current = current_version(core.log(), &read.key);
-            Ok(Reply::Overwritten { key, current })
-        }
-        None => accept_unless_clashing(alloc, core, p),
-    }
-}
-
 fn answer_request(
     alloc: Global,
     core: &mut Core,
@@ -121,11 +128,11 @@ fn answer_request(
     ensures answer { IfOk result (λ reply. request core.old.plan core.old.node reading ask.now ≡ record { reply = reply; node = core.new.node }) }
     ensures plan { IfOk result (λ _. core.new.plan ≡ core.old.plan) }
 {
-    if core.pending() >= MOST_OPEN {
-        return Ok(Reply::PoolFull);
+    if let Some(reply) = refusal(core, ask)? {
+        return Ok(reply);
     }
     let p = transaction_for(alloc, core, reading, ask)?;
-    accept_unless_stale(alloc, core, p)
+    accept_asked(alloc, core, p)
 }
 
 /// Takes the node one step: the answer to an input, by the rules.

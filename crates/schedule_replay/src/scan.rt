@@ -78,7 +78,7 @@ fn committed<'a>(log: &'a [Record], r: &Record) -> Option<&'a Prepare>
 fn is_writing(p: &Prepare, key: &Key) -> bool
     ensures { result ≡ writes_key p.now key.now }
 {
-    p.writes().items().iter().any(|w| w.key == *key)
+    p.is_writing(key)
 }
 
 #[tactic(auto, using(crate::proofs::Rests::current_drop))]
@@ -110,12 +110,12 @@ fn open_prepare<'a>(log: &[Record], r: &'a Record) -> Option<&'a Prepare>
 }
 
 #[tactic(auto, using(crate::proofs::Rests::clash_drop))]
-pub(crate) fn first_clash<'a>(log: &'a [Record], p: &Prepare) -> Option<&'a Prepare>
-    ensures { option_map (λ q. q.now) result ≡ clash log.now p.now }
+pub(crate) fn first_clash<'a>(log: &'a [Record], ask: &Ask) -> Option<&'a Prepare>
+    ensures { option_map (λ q. q.now) result ≡ clash log.now ask.now }
 {
     for r in log {
         if let Some(q) = open_prepare(log, r) {
-            if conflicts(p, q) {
+            if ask.conflicts_with(q) {
                 return Some(q);
             }
         }

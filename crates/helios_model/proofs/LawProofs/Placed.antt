@@ -15,8 +15,9 @@ use Rattle.helios_model.specs.Step.{by_clock, is_journaled, after_entry, after_e
 use Rattle.helios_model.specs.World.{World, Event, first_world, node_of, journal_of, run, happens}
 use Rattle.helios_model.specs.World.Event.{Batch}
 use Rattle.helios_model.specs.World.Ending.{Done}
+use Rattle.helios_model.specs.Laws.Moves.{BatchMovesOneNode}
 use Rattle.helios_model.specs.Laws.Placed.{IsPlaced, EachNodeIsPlaced}
-use Rattle.helios_model.proofs.LawProofs.Worlds.{first_journals, journals_stay}
+use Rattle.helios_model.proofs.LawProofs.Worlds.{first_journals, first_node, journals_stay, node_here, node_elsewhere}
 
 pub placed_clock : (plan : PlanData) (site : ℕ) (n : Node) (time : ℕ) → IsPlaced plan site n → IsPlaced plan site (with_clock plan n time)
 placed_clock plan site n time h = record {
@@ -63,4 +64,14 @@ pub each_node_is_placed : EachNodeIsPlaced
 each_node_is_placed plan events may = record {
   journals = run_journals plan (first_world plan) events ∙ first_journals plan;
   nodes = λ k. node_placed plan (run plan (first_world plan) events) k;
+}
+
+pub batch_moves_one_node : BatchMovesOneNode
+batch_moves_one_node = record {
+  first_journals = first_journals;
+  first_node = first_node;
+  site_stays = λ plan w k. (node_placed plan w k).at_site;
+  journals_stay = journals_stay;
+  node_here = node_here;
+  node_elsewhere = node_elsewhere;
 }
