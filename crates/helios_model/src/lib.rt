@@ -10,8 +10,6 @@ mod limits;
 mod numbers;
 mod plans;
 mod records;
-#[cfg(test)]
-mod tests;
 mod texts;
 mod transactions;
 

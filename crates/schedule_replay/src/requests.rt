@@ -8,8 +8,8 @@ use crate::node::Core;
 use crate::scan::{current_version, first_clash, first_stale, is_finished};
 use helios_model::laws::asked_is_transaction;
 use helios_model::{
-    Ask, Entry, Input, LAST_READING, MOST_OPEN, Prepare, PutItem, Record, Reply, SPENT_TIME, Time, TxnId,
-    WriteItem, Writes,
+    Ask, Entry, Input, LAST_READING, MOST_OPEN, Prepare, PutItem, Puts, Record, Reply, SPENT_TIME,
+    Time, TxnId, WriteItem, Writes,
 };
 use std::alloc::{AllocError, Global};
 
@@ -50,27 +50,21 @@ fn refusal(core: &Core, ask: &Ask) -> Result<Option<Reply>, AllocError>
     }
 }
 
-fn write_over(log: &[Record], put: &PutItem) -> Result<WriteItem, AllocError>
-    ensures { IfOk result (λ w. w ≡ write_at log.now put.now) }
+fn write_over(log: &[Record], put: PutItem) -> WriteItem
+    ensures { result ≡ write_at log.now put }
 {
-    let key = put.key.copy()?;
-    let value = put.value.copy()?;
     let over = current_version(log, &put.key);
-    Ok(WriteItem { key, value, over })
+    let PutItem { key, value } = put;
+    WriteItem { key, value, over }
 }
 
-fn writes_over(
-    alloc: Global,
-    log: &[Record],
-    puts: &[PutItem],
-) -> Result<Vec<WriteItem>, AllocError>
-    ensures { IfOk result (λ ws. ws.items ≡ map (write_at log.now) puts.now) }
+fn writes_over(alloc: Global, log: &[Record], puts: Puts) -> Result<Vec<WriteItem>, AllocError>
+    ensures { IfOk result (λ ws. ws.items ≡ map (write_at log.now) puts) }
 {
-    let mut writes = Vec::new(alloc);
-    for put in puts {
-        writes.push(write_over(log, put)?)?;
-    }
-    Ok(writes)
+    puts.into_items()
+        .into_iter()
+        .map(|put| write_over(log, put))
+        .collect(alloc)
 }
 
 /// The name that the node gives next.
@@ -86,20 +80,21 @@ fn next_name(core: &Core, reading: u64) -> TxnId
     }
 }
 
+/// The transaction that a request becomes.
 fn transaction_for(
     alloc: Global,
     core: &Core,
     reading: u64,
-    ask: &Ask,
+    ask: Ask,
 ) -> Result<Prepare, AllocError>
     requires { clock core.now.plan core.now.node < 2 ^ 62 }
-    ensures asked { IfOk result (λ p. p ≡ asked core.now.node.log (next_id core.now.plan core.now.node reading) ask.now) }
+    ensures asked { IfOk result (λ p. p ≡ asked core.now.node.log (next_id core.now.plan core.now.node reading) ask) }
     ensures small { IfOk result (λ p. p.id.time < 2 ^ 63) }
 {
     asked_is_transaction();
-    let reads = ask.reads().copy()?;
-    let writes = Writes::new(writes_over(alloc, core.log(), ask.puts().items())?);
     let id = next_name(core, reading);
+    let (reads, puts) = ask.into_parts();
+    let writes = Writes::new(writes_over(alloc, core.log(), puts)?);
     Ok(Prepare::of(id, reads, writes))
 }
 
@@ -122,13 +117,13 @@ fn answer_request(
     alloc: Global,
     core: &mut Core,
     reading: u64,
-    ask: &Ask,
+    ask: Ask,
 ) -> Result<Reply, AllocError>
     requires { clock core.old.plan core.old.node < 2 ^ 62 }
-    ensures answer { IfOk result (λ reply. request core.old.plan core.old.node reading ask.now ≡ record { reply = reply; node = core.new.node }) }
+    ensures answer { IfOk result (λ reply. request core.old.plan core.old.node reading ask ≡ record { reply = reply; node = core.new.node }) }
     ensures plan { IfOk result (λ _. core.new.plan ≡ core.old.plan) }
 {
-    if let Some(reply) = refusal(core, ask)? {
+    if let Some(reply) = refusal(core, &ask)? {
         return Ok(reply);
     }
     let p = transaction_for(alloc, core, reading, ask)?;
@@ -136,16 +131,17 @@ fn answer_request(
 }
 
 /// Takes the node one step: the answer to an input, by the rules.
-pub(crate) fn answer(alloc: Global, core: &mut Core, entry: &Entry) -> Result<Reply, AllocError>
-    ensures answer { IfOk result (λ reply. step core.old.plan core.old.node entry.now ≡ record { reply = reply; node = core.new.node }) }
+pub(crate) fn answer(alloc: Global, core: &mut Core, entry: Entry) -> Result<Reply, AllocError>
+    ensures answer { IfOk result (λ reply. step core.old.plan core.old.node entry ≡ record { reply = reply; node = core.new.node }) }
     ensures plan { IfOk result (λ _. core.new.plan ≡ core.old.plan) }
 {
-    match &entry.input {
+    let Entry { reading, input } = entry;
+    match input {
         Input::Request(ask) => {
             if core.clock() >= SPENT_TIME {
                 return Ok(Reply::ClockSpent);
             }
-            answer_request(alloc, core, entry.reading, ask)
+            answer_request(alloc, core, reading, ask)
         }
     }
 }

@@ -1,6 +1,6 @@
-// What a planned input asks of a site.
+//! The entries of a batch: what each planned input asks of a site as the batch begins.
 ghost use Rattle.std.specs.Prelude.{◌≡◌, IfOk, All, map};
-ghost use Rattle.schedule_replay.specs.Planning.{entries_for, entry_for, read_for, version_for};
+ghost use Rattle.schedule_replay.specs.Entries.{entries_for, entry_for, read_for, version_for};
 ghost use Rattle.schedule_replay.specs.Replayable.{IsPlannedInput};
 
 use crate::inputs::Planned;
