@@ -1,4 +1,7 @@
+pub mod FewItems
 pub mod Items
 pub mod LineFeed
+pub mod ListReading
 pub mod NameForms
+pub mod RowSteps
 pub mod WholeText

@@ -1,4 +1,7 @@
 pub mod Arrays
+pub mod Lists
+pub mod Members
 pub mod Names
 pub mod Reading
 pub mod Text
+pub mod Unread
