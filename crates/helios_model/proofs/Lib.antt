@@ -3,3 +3,5 @@ pub mod Offsets
 pub mod LawProofs
 pub mod PlanLimits
 pub mod FirstBelow
+pub mod SpellingLaws
+pub mod SpellingSteps

@@ -25,6 +25,9 @@ pub use limits::{
 pub use numbers::{Bytes, Places, Times};
 pub use plans::{Certificate, Matrix, Name, Names, Plan};
 pub use records::{CommitEvent, Commits, Record, Records};
+pub use texts::{
+    Misspelled, ids_are_read_again, is_name, key_from, value_from, versions_are_read_again,
+};
 pub use transactions::{
     Ask, Prepare, PutItem, Puts, ReadItem, Reads, WriteItem, Writes, conflicts,
 };
