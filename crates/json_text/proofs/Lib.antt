@@ -4,4 +4,5 @@ pub mod LineFeed
 pub mod ListReading
 pub mod NameForms
 pub mod RowSteps
+pub mod SpelledForms
 pub mod WholeText

@@ -19,7 +19,9 @@ pub use members::{array_member, has_member, is_text, number_member, only, pair, 
 pub use names::is_name;
 pub use refusals::{Refusal, Unread};
 pub use rows::{JsonNumber, read_row, read_square};
-pub use spelled::{NameReader, are_texts};
+pub use spelled::{
+    KeyReader, NameReader, NamedVersion, are_texts, id, key, named_version, stored_value, version,
+};
 pub use text::{a_line_feed_says_nothing, line_of, value_of};
 
 #[cfg(test)]
