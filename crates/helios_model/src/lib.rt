@@ -4,6 +4,7 @@
 
 mod entries;
 mod ids;
+mod keyed;
 mod keys;
 pub mod laws;
 mod limits;
@@ -17,6 +18,7 @@ mod transactions;
 
 pub use entries::{Entries, Entry, Input, Replies, Reply, State};
 pub use ids::{SiteId, Time, TxnId, TxnIds, Version};
+pub use keyed::{Keyed, keys_differ};
 pub use keys::{Key, Keys, Val};
 pub use limits::{
     GREATEST_LATENCY, LAST_READING, LAST_TIME, LONGEST_TRIP, MOST_INPUTS, MOST_ITEMS,
