@@ -5,4 +5,5 @@ pub mod Names
 pub mod Reading
 pub mod Spelled
 pub mod Text
+pub mod Transactions
 pub mod Unread

@@ -1,7 +1,12 @@
 -- What a reader of a part gives: what the part says, or why it was not read.
-use Rattle.std.specs.Prelude.{◌≡◌, Option, Some, None, Result, Ok, Err}
+use Rattle.std.specs.Prelude.{◌≡◌, Option, Some, None, option_and_then, Result, Ok, Err}
 use Rattle.json_text.specs.declared.refusals.Unread.{Unread}
 use Rattle.json_text.specs.declared.refusals.Unread.TheVariants.{NoMemory, OtherForm}
+
+infixl 10 ◌>>=◌
+-- what comes of a part that is there
+abbrev pub ◌>>=◌ : {A B : Type 0} → Option A → (A → Option B) → Option B
+found >>= next = option_and_then next found
 
 -- a part that was not read says nothing, unless memory ran out
 abbrev pub Fails : {A : Type 0} → Unread → Option A → Type 0

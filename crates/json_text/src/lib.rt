@@ -12,6 +12,7 @@ mod refusals;
 mod rows;
 mod spelled;
 mod text;
+mod transactions;
 
 pub use arrays::{numbers, row, square, texts};
 pub use lists::{ItemReader, PartReader, read_list, read_parts};
@@ -23,6 +24,7 @@ pub use spelled::{
     KeyReader, NameReader, NamedVersion, are_texts, id, key, named_version, stored_value, version,
 };
 pub use text::{a_line_feed_says_nothing, line_of, value_of};
+pub use transactions::{PutReader, ReadReader, read_keyed};
 
 #[cfg(test)]
 mod tests;
