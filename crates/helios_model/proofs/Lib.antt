@@ -4,3 +4,5 @@ pub mod LawProofs
 pub mod PlanLimits
 pub mod FirstBelow
 pub mod Overlaps
+pub mod SpellingLaws
+pub mod SpellingSteps
