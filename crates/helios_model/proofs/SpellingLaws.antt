@@ -12,7 +12,8 @@ use Rattle.helios_model.specs.declared.ids.Version.{Version}
 use Rattle.helios_model.specs.declared.ids.Version.TheVariants.{Initial, Of}
 use Rattle.helios_model.specs.Ids.{id_text, version_text}
 use Rattle.helios_model.specs.Limits.{last_time, most_sites}
-use Rattle.helios_model.specs.Spellings.{IsIdText, IsVersionText, has_plain_front, is_plain, number_after, number_of, id_from, id_of, is_at, version_of}
+use Rattle.helios_model.specs.Spellable.{IsSpellableId, IsSpellableVersion}
+use Rattle.helios_model.specs.Spellings.{has_plain_front, is_plain, number_after, number_of, id_from, id_of, is_at, version_of}
 
 own : IsNumeralModel (λ ds. list_all is_ascii_digit ds ≡ true) (number_after 0)
 own = numerals_by_fold _ (search rules) number_after (search rules)
@@ -82,7 +83,7 @@ after_at digits rest h = ap (λ n. drop (n + 1) (digits ++ 64 ∷ rest)) (at_pla
 id_chosen : (b : Bool) (id : TxnId) → b ≡ true → (if b then Some id else None) ≡ Some id
 id_chosen b id holds = rw holds refl
 
-id_within : (id : TxnId) → IsIdText id → id_from id.site id.time ≡ Some id
+id_within : (id : TxnId) → IsSpellableId most_sites id → id_from id.site id.time ≡ Some id
 unfolding id_from
 id_within id h = id_chosen (nat_lt id.site most_sites && nat_le 1 id.time && nat_le id.time last_time) id
     (and_from _ _ (and_from _ _ (lt-ltb id.site most_sites h.here) (le-leb 1 id.time h.some)) (le-leb id.time last_time h.last))
@@ -93,7 +94,7 @@ both site time s t id of_site of_time made =
     ap (λ found. option_and_then (λ a. option_and_then (λ b. id_from a b) time) found) of_site
     ∙ ap (λ found. option_and_then (λ b. id_from s b) found) of_time ∙ made
 
-pub id_read_again : (id : TxnId) → IsIdText id → id_of (id_text id) ≡ Some id
+pub id_read_again : (id : TxnId) → IsSpellableId most_sites id → id_of (id_text id) ≡ Some id
 unfolding id_of
 id_read_again id h =
     let here = h.here in let last = h.last in
@@ -120,7 +121,7 @@ not_initial (d ∷ ds) rest h some =
 of_an_id : (initial : Bool) (found : Option TxnId) (id : TxnId) → initial ≡ false → found ≡ Some id → (if initial then Some Initial else option_map Of found) ≡ Some (Of id)
 of_an_id initial found id other is = rw other (rw is refl)
 
-pub version_read_again : (version : Version) → IsVersionText version → version_of (version_text version) ≡ Some version
+pub version_read_again : (version : Version) → IsSpellableVersion version → version_of (version_text version) ≡ Some version
 unfolding version_of
 version_read_again Initial h = refl
 version_read_again (Of id) h =

@@ -19,9 +19,9 @@ use Rattle.helios_model.specs.Transactions.{Transaction, Asking}
 
 -- an id of one of so many sites, with a time from 1 to the last
 pub record IsSpellableId (count : ℕ) (id : TxnId) : Type 0 where
-  pub site : id.site < count
-  pub started : 1 ≤ id.time
-  pub small : id.time ≤ last_time
+  pub here : id.site < count
+  pub some : 1 ≤ id.time
+  pub last : id.time ≤ last_time
 
 -- a version may name any site that a cluster can have
 abbrev pub IsSpellableVersion : Version → Type 0
@@ -65,7 +65,7 @@ pub record IsSpellablePrepare (count : ℕ) (p : Transaction) : Type 0 where
 pub record IsSpellableEnd (count : ℕ) (id : TxnId) (time : ℕ) : Type 0 where
   pub named : IsSpellableId count id
   pub later : id.time < time
-  pub small : time ≤ last_time
+  pub last : time ≤ last_time
 
 -- a record of a log of so many sites
 abbrev pub IsSpellableRecord : ℕ → Record → Type 0

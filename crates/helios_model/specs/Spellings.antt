@@ -8,17 +8,6 @@ use Rattle.helios_model.specs.declared.ids.Version.{Version}
 use Rattle.helios_model.specs.declared.ids.Version.TheVariants.{Initial, Of}
 use Rattle.helios_model.specs.Limits.{last_time, most_key_bytes, most_name_bytes, most_sites, most_value_bytes}
 
--- which ids have a spelling
-pub record IsIdText (id : TxnId) : Type 0 where
-  pub here : id.site < most_sites
-  pub some : 1 ≤ id.time
-  pub last : id.time ≤ last_time
-
--- which versions have a spelling
-abbrev pub IsVersionText : Version → Type 0
-IsVersionText Initial = Unit {0}
-IsVersionText (Of id) = IsIdText id
-
 -- one digit, or more of which the first is not 0
 abbrev pub has_plain_front : List ℕ → Bool
 has_plain_front digits = length digits == 1 || (nat_lt 1 (length digits) && not (slice_index digits 0 == 48))

@@ -5,7 +5,8 @@ ghost use Rattle.std.specs.List.{list_all};
 ghost use Rattle.std.specs.Result.{result_ok};
 ghost use Rattle.helios_model.specs.Ids.{id_text, version_text};
 ghost use Rattle.helios_model.specs.Limits.{last_time, most_sites};
-ghost use Rattle.helios_model.specs.Spellings.{IsIdText, IsVersionText, has_plain_front, id_from, id_of, is_name, is_name_byte, is_plain, key_of, number_of, value_of, version_of};
+ghost use Rattle.helios_model.specs.Spellable.{IsSpellableId, IsSpellableVersion};
+ghost use Rattle.helios_model.specs.Spellings.{has_plain_front, id_from, id_of, is_name, is_name_byte, is_plain, key_of, number_of, value_of, version_of};
 ghost use Rattle.helios_model.specs.Texts.{IsName};
 ghost use Rattle.helios_model.specs.declared.ids.TxnId.{TxnId};
 ghost use Rattle.helios_model.specs.declared.ids.Version.{Version};
@@ -172,11 +173,11 @@ pub fn is_name(text: &str) -> bool
 /// An id that has a spelling is read again as it was.
 #[tactic(auto, using(crate::proofs::SpellingLaws::id_read_again))]
 pub fn ids_are_read_again()
-    ensures { (id : TxnId) → IsIdText id → id_of (id_text id) ≡ Some id }
+    ensures { (id : TxnId) → IsSpellableId most_sites id → id_of (id_text id) ≡ Some id }
 {}
 
 /// A version that has a spelling is read again as it was.
 #[tactic(auto, using(crate::proofs::SpellingLaws::version_read_again))]
 pub fn versions_are_read_again()
-    ensures { (version : Version) → IsVersionText version → version_of (version_text version) ≡ Some version }
+    ensures { (version : Version) → IsSpellableVersion version → version_of (version_text version) ≡ Some version }
 {}

@@ -5,10 +5,11 @@ ghost use Rattle.helios_model.specs.declared.transactions.PutItem.{PutItem};
 ghost use Rattle.helios_model.specs.declared.transactions.ReadItem.{ReadItem};
 ghost use Rattle.helios_model.specs.declared.transactions.WriteItem.{WriteItem};
 ghost use Rattle.std.specs.List.{list_any};
-ghost use Rattle.helios_model.specs.Texts.{contains_text, all_differ, same_text};
+ghost use Rattle.helios_model.specs.Texts.{same_text};
 ghost use Rattle.helios_model.specs.Transactions.{IsTransaction, IsAsk, conflict, keys_conflict, touched_by, touched_by_ask, writes_key};
 
 use crate::ids::{TxnId, Version};
+use crate::keyed::{Keyed, is_among, keys_differ};
 use crate::keys::{Key, Val};
 use crate::limits::MOST_ITEMS;
 use std::alloc::AllocError;
@@ -147,54 +148,6 @@ impl Writes {
         ensures { IfOk result (λ copied. copied ≡ self.now) }
     {
         self.clone()
-    }
-}
-
-/// What has a key.
-trait Keyed {
-    ghost key_of: { Self → List ℕ };
-
-    fn key(&self) -> &Key
-        ensures { result.now ≡ key_of self.now };
-}
-
-impl Keyed for ReadItem {
-    ghost key_of = { λ r. r.key };
-
-    fn key(&self) -> &Key {
-        &self.key
-    }
-}
-
-impl Keyed for PutItem {
-    ghost key_of = { λ p. p.key };
-
-    fn key(&self) -> &Key {
-        &self.key
-    }
-}
-
-impl Keyed for WriteItem {
-    ghost key_of = { λ w. w.key };
-
-    fn key(&self) -> &Key {
-        &self.key
-    }
-}
-
-fn is_among<T: Keyed>(items: &[T], key: &Key) -> bool
-    ensures { result ≡ list_any (λ item. same_text (T.key_of item) key.now) items.now }
-{
-    items.iter().any(|item| *item.key() == *key)
-}
-
-#[tactic(auto, using(crate::proofs::Slices::first_and_rest))]
-fn keys_differ<T: Keyed>(items: &[T]) -> bool
-    ensures { result ≡ all_differ T.key_of items.now }
-{
-    match items {
-        [] => true,
-        [first, rest @ ..] => !is_among(rest, first.key()) && keys_differ(rest),
     }
 }
 

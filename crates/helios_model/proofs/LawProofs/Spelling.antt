@@ -97,9 +97,9 @@ record IsSpelled (plan : PlanData) (n : Node) : Type 0 where
 
 -- each own time is from 1 to the last
 record IsTimed (count : ℕ) (r : Record) : Type 0 where
-  site : origin r < count
-  started : 1 ≤ own_time r
-  small : own_time r ≤ last_time
+  here : origin r < count
+  some : 1 ≤ own_time r
+  last : own_time r ≤ last_time
 
 timed : (plan : PlanData) (n : Node) (r : Record) → IsSpelled plan n → Contains n.log r → IsTimed (count_of plan) r
 timed plan n r h there =
@@ -108,15 +108,15 @@ timed plan n r h there =
     let clocked : own_time r ≤ clock plan n = subst (λ k. own_time r ≤ known plan n n.site k) own low in
     let below : clock plan n ≤ highest_clock = h.below.low_clock in
     let some : 0 < own_time r = All-contains (λ x. 0 < own_time x) n.log r h.kept.laws.times.positive there in
-    record { site = subst (λ s. s < count_of plan) (sym own) h.kept.here; started = omega arith; small = omega arith }
+    record { here = subst (λ s. s < count_of plan) (sym own) h.kept.here; some = omega arith; last = omega arith }
 
 id_spelled : (plan : PlanData) (n : Node) (p : Transaction) → IsSpelled plan n → Contains (prepares n.log) p → IsSpellableId (count_of plan) p.id
 id_spelled plan n p h there =
     let t : IsTimed (count_of plan) (Prepare p) = timed plan n (Prepare p) h (prepare_stands n.log p there) in
-    record { site = t.site; started = t.started; small = t.small }
+    record { here = t.here; some = t.some; last = t.last }
 
 widened : (count : ℕ) (id : TxnId) → count ≤ most_sites → IsSpellableId count id → IsSpellableId most_sites id
-widened count id few h = let low : id.site < count = h.site in record { site = omega arith; started = h.started; small = h.small }
+widened count id few h = let low : id.site < count = h.here in record { here = omega arith; some = h.some; last = h.last }
 
 version_spelled : (plan : PlanData) (n : Node) (key : List ℕ) → IsSpelled plan n → IsSpellableVersion (current n.log key)
 version_spelled plan n key h = folded (commits n.log) Initial (λ e there. there) tt
@@ -155,20 +155,20 @@ records_spelled plan n h = all_from (IsSpellableRecord (count_of plan)) n.log
 
     by_record : (r : Record) → Contains n.log r → HasSpellableParts (count_of plan) r → IsTimed (count_of plan) r → IsSpellableRecord (count_of plan) r
     by_record (Prepare p) there parts t = record {
-      named = record { site = t.site; started = t.started; small = t.small };
+      named = record { here = t.here; some = t.some; last = t.last };
       reads = parts.0;
       writes = parts.1;
     }
     by_record (Commit id time) there parts t = record {
       named = ended_spelled plan n id h (backed (Commit id time) there);
       later = (follows (Commit id time) (contains_cut n.log (Commit id time) there)).later;
-      small = t.small;
+      last = t.last;
     }
     by_record (Abort id time cause) there parts t = (
       record {
         named = ended_spelled plan n id h (backed (Abort id time cause) there);
         later = (follows (Abort id time cause) (contains_cut n.log (Abort id time cause) there)).later;
-        small = t.small;
+        last = t.last;
       },
       parts,
     )
