@@ -2,4 +2,5 @@ pub mod Slices
 pub mod Offsets
 pub mod LawProofs
 pub mod PlanLimits
+pub mod EvenSquares
 pub mod FirstBelow

@@ -3,6 +3,7 @@ pub mod Texts
 pub mod Ids
 pub mod Transactions
 pub mod Plans
+pub mod Squares
 pub mod Offset
 pub mod Optimal
 pub mod Log

@@ -10,6 +10,7 @@ mod limits;
 mod numbers;
 mod plans;
 mod records;
+mod squares;
 #[cfg(test)]
 mod tests;
 mod texts;
@@ -25,6 +26,7 @@ pub use limits::{
 pub use numbers::{Bytes, Places, Times};
 pub use plans::{Certificate, Matrix, Name, Names, Plan};
 pub use records::{CommitEvent, Commits, Record, Records};
+pub use squares::{first_away, first_too_long, first_uneven};
 pub use transactions::{
     Ask, Prepare, PutItem, Puts, ReadItem, Reads, WriteItem, Writes, conflicts,
 };
