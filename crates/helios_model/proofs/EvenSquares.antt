@@ -7,28 +7,12 @@ use Rattle.std.proofs.lemmas.List.Elements.{All-from_get_or}
 use Rattle.std.proofs.lemmas.Nat.{div_below, mul-add-lt, div-mul-add, mod-mul-add}
 use Rattle.helios_model.specs.Limits.{longest_trip}
 use Rattle.helios_model.specs.Plans.{trip_at}
-use Rattle.helios_model.specs.Squares.{first_below, too_long_place, is_uneven, uneven_place, first_away, IsSymmetric, IsZeroOnDiagonal}
+use Rattle.helios_model.proofs.FirstBelow.{fails_below}
+use Rattle.helios_model.specs.Squares.{too_long_place, is_uneven, uneven_place, first_away, IsSymmetric, IsZeroOnDiagonal}
 
 -- the mirror image of a place stands in the square
 pub mirror_within : (n place : ℕ) → place < n * n → 0 < n → (place % n) * n + place / n < n * n
 mirror_within n place within some = (let row : place / n < n = div_below place n n some within in mul-add-lt (place % n) n (place / n) n (let column : place % n < n = omega arith in column) row)
-
-fails_with_head : (p : ℕ → Bool) (a m : ℕ) (b : Bool) → p a ≡ b → find p (range_with_len a (suc m)) ≡ None → (find p (range_with_len (a + 1) m) ≡ None → (k : ℕ) → k < m → p ((a + 1) + k) ≡ false) → (k : ℕ) → k < suc m → p (a + k) ≡ false
-fails_with_head p a m true passes none rest k low =
-    let found : find p (range_with_len a (suc m)) ≡ Some a = ap (λ b. cond b (Some a) (find p (range_with_len (a + 1) m))) passes in
-    cc
-fails_with_head p a m false fails none rest zero low = (let start : a + 0 ≡ a = omega arith in ap p start ∙ fails)
-fails_with_head p a m false fails none rest (suc j) low =
-    let moved : a + suc j ≡ (a + 1) + j = omega arith in
-    ap p moved ∙ rest (sym (ap (λ b. cond b (Some a) (find p (range_with_len (a + 1) m))) fails) ∙ none) j (omega arith)
-
-fails_from : (p : ℕ → Bool) (a m : ℕ) → find p (range_with_len a m) ≡ None → (k : ℕ) → k < m → p (a + k) ≡ false
-fails_from p a zero none k low = absurd (omega arith)
-fails_from p a (suc m) none k low = fails_with_head p a m (p a) refl none (fails_from p (a + 1) m) k low
-
--- where none passes, each fails
-fails_below : (test : ℕ → Bool) (bound : ℕ) → first_below test bound ≡ None → (k : ℕ) → k < bound → test k ≡ false
-fails_below test bound none k low = (let start : k ≡ 0 + k = omega arith in ap test start ∙ fails_from test 0 bound none k low)
 
 same_of : (a b : ℕ) → not (a == b) ≡ false → a ≡ b
 same_of a b h = eqb-true a b (not_not (a == b) h)

@@ -3,4 +3,10 @@ pub mod Offsets
 pub mod LawProofs
 pub mod PlanLimits
 pub mod EvenSquares
+pub mod GoodNames
+pub mod PassedTests
+pub mod ShortPairs
+pub mod Permutations
+pub mod Sums
+pub mod Optimality
 pub mod FirstBelow

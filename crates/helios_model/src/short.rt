@@ -1,12 +1,13 @@
+//! The first two sites of a plan whose latencies together don't reach their round trip.
 ghost use Rattle.std.specs.Prelude.{◌≡◌, ℕ, ◌+◌, ◌<◌, ◌≤◌, IfSome, IfNone, MatchOption};
 ghost use Rattle.helios_model.specs.Plans.{IsAccepted, count_of};
-ghost use Rattle.plan_certificate.specs.Judgement.{first_short_of};
-ghost use Rattle.plan_certificate.specs.Verdict.{IsReached, IsFirstShort, IsFirstShortInRow, IsRowReached};
+ghost use Rattle.helios_model.specs.Short.{first_short_of, EachShortPairIsFound, IsReached, IsFirstShort, IsFirstShortInRow, IsRowReached};
 
-use helios_model::{Plan, SiteId};
+use crate::ids::SiteId;
+use crate::plans::Plan;
 
 /// The first two sites, row by row, whose latencies together don't reach their round trip.
-#[tactic(auto, using(crate::proofs::Judgements::first_short_found, crate::proofs::Judgements::no_short_found))]
+#[tactic(auto, using(crate::proofs::ShortPairs::first_short_found, crate::proofs::ShortPairs::no_short_found))]
 pub fn first_short(plan: &Plan) -> Option<(SiteId, SiteId)>
     ensures exact { result ≡ first_short_of plan.now }
     ensures found { IfSome result (λ pair. IsFirstShort plan.now pair.0 pair.1) }
@@ -36,3 +37,8 @@ fn short_in_row(plan: &Plan, site: SiteId) -> Option<SiteId>
     }
     None
 }
+
+/// The first short pair by its definition is the one by rows, and an accepted plan has none.
+pub fn each_short_pair_is_found()
+    ensures { EachShortPairIsFound }
+{}

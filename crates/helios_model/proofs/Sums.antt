@@ -4,13 +4,7 @@ use Rattle.std.specs.List.{sum, range_with_len}
 use Rattle.std.proofs.lemmas.List.FromFn.{map-range_with_len_more, fill_by_all}
 use Rattle.std.proofs.lemmas.List.Sums.{sum_by_push}
 use Rattle.std.proofs.Math.Nat.{mul-add}
-
--- the sum of f over the numbers below n
-abbrev pub sum_below : (ℕ → ℕ) → ℕ → ℕ
-sum_below f n = sum (map f (range_with_len 0 n))
-
-pub sum_below_more : (f : ℕ → ℕ) (n : ℕ) → sum_below f (n + 1) ≡ sum_below f n + f n
-sum_below_more f n = ap sum (map-range_with_len_more f 0 n n (omega arith)) ∙ sum_by_push (λ x. x) (map f (range_with_len 0 n)) (f n)
+use Rattle.helios_model.specs.Pairings.{sum_below, sum_below_more}
 
 -- a bound on each term bounds the sum
 pub sum_below-le : (c : ℕ) (f g h : ℕ → ℕ) (n : ℕ) → ((i : ℕ) → i < n → c * f i ≤ g i + h i) → c * sum_below f n ≤ sum_below g n + sum_below h n
@@ -23,7 +17,3 @@ sum_below-le c f g h (suc n) bound =
     let more_g : sum_below g (suc n) ≡ sum_below g n + g n = ap (sum_below g) (sym (add-one n)) ∙ sum_below_more g n in
     let more_h : sum_below h (suc n) ≡ sum_below h n + h n = ap (sum_below h) (sym (add-one n)) ∙ sum_below_more h n in
     omega arith
-
--- a list's sum is that of its items by place
-pub sum_below-items : (xs : List ℕ) → sum_below (λ i. get_or xs i 0) (length xs) ≡ sum xs
-sum_below-items xs = ap sum (sym (fill_by_all (λ i. get_or xs i 0) xs (length xs) 0 refl (λ k within. refl)))

@@ -11,8 +11,9 @@ use lib.Dec.{eqb}
 use mathlib.Core.Bool.{true, false}
 use Rattle.helios_model.specs.Plans.{PlanData, IsAccepted, count_of, rtt}
 use Rattle.helios_model.specs.Optimal.{IsCertificate, IsOptimal}
-use Rattle.plan_certificate.proofs.Permutations.{below_from_permutation}
-use Rattle.plan_certificate.proofs.Sums.{sum_below, sum_below-le, sum_below-items}
+use Rattle.helios_model.specs.Pairings.{sum_below, sum_below-items, IsPairing, PairingsAreOrders, PartnersAddUp, PairingsBound}
+use Rattle.helios_model.proofs.Permutations.{below_from_permutation, apart_from_permutation, permutation_from_apart}
+use Rattle.helios_model.proofs.Sums.{sum_below-le}
 
 -- a sum over images is the sum of the composed function
 sum_by-map : (f g : ℕ → ℕ) (xs : List ℕ) → sum_by f (map g xs) ≡ sum_by (λ x. f (g x)) xs
@@ -23,7 +24,7 @@ sum_by-map f g (x ∷ xs) =
     whole ∙ ap (λ m. f (g x) + m) (sum_by-map f g xs) ∙ sym parts
 
 -- over a permutation of the places, the partners' numbers add up to all numbers
-pub partners_sum : (n : ℕ) (pairs p : List ℕ) → length p ≡ n → IsPermutation (range_with_len 0 n) pairs → sum_below (λ i. get_or p (get_or pairs i 0) 0) n ≡ sum p
+partners_sum : (n : ℕ) (pairs p : List ℕ) → length p ≡ n → IsPermutation (range_with_len 0 n) pairs → sum_below (λ i. get_or p (get_or pairs i 0) 0) n ≡ sum p
 partners_sum n pairs p long order =
     let f : ℕ → ℕ = λ j. get_or p j 0 in
     let pairs_long : length pairs ≡ n = length_permutation (range_with_len 0 n) pairs order ∙ length-range_with_len 0 n in
@@ -36,7 +37,7 @@ partners_sum n pairs p long order =
     one ∙ sym two ∙ ap (sum_by f) (sym as_pairs) ∙ three ∙ four ∙ five
 
 -- twice k times the paired round trips is at most twice the sum of numbers that reach them
-pub pairing_bound : (trip : ℕ → ℕ → ℕ) (n k : ℕ) (pairs p : List ℕ) → length p ≡ n → IsPermutation (range_with_len 0 n) pairs → ((i : ℕ) → i < n → trip i i ≡ 0) → ((i : ℕ) → i < n → get_or pairs i 0 < n) → ((i j : ℕ) → i < n → j < n → i ≢ j → 2 * k * trip i j ≤ get_or p i 0 + get_or p j 0) → k * sum_below (λ i. trip i (get_or pairs i 0)) n ≤ sum p
+pairing_bound : (trip : ℕ → ℕ → ℕ) (n k : ℕ) (pairs p : List ℕ) → length p ≡ n → IsPermutation (range_with_len 0 n) pairs → ((i : ℕ) → i < n → trip i i ≡ 0) → ((i : ℕ) → i < n → get_or pairs i 0 < n) → ((i j : ℕ) → i < n → j < n → i ≢ j → 2 * k * trip i j ≤ get_or p i 0 + get_or p j 0) → k * sum_below (λ i. trip i (get_or pairs i 0)) n ≤ sum p
 pairing_bound trip n k pairs p long order zero_self low reach =
     let f : ℕ → ℕ = λ i. trip i (get_or pairs i 0) in
     let each : (i : ℕ) → i < n → 2 * k * f i ≤ get_or p i 0 + get_or p (get_or pairs i 0) 0 = λ i within.
@@ -62,3 +63,24 @@ certificate_shows_optimal plan pair accepted certificate k others some long reac
     pairing_bound (rtt plan) n k pair others long certificate.pairing accepted.limits.matrix.diagonal low reach in
     let value : k * sum plan.latencies ≡ k * sum_below (λ i. rtt plan i (get_or pair i 0)) n = ap (λ m. k * m) certificate.value in
     omega arith
+
+order_of : (n : ℕ) (pair : List ℕ) → IsPairing n pair → IsPermutation (range_with_len 0 n) pair
+order_of n pair pairing = permutation_from_apart n pair pairing.size pairing.sites (λ i j before within. pairing.apart i j before (let size : length pair ≡ n = pairing.size in omega arith))
+
+pub pairings_are_orders : PairingsAreOrders
+pairings_are_orders n pair = (
+  (λ order.
+      let size : length pair ≡ n = length_permutation (range_with_len 0 n) pair order ∙ length-range_with_len 0 n in
+      record {
+        size = size;
+        sites = below_from_permutation n pair order;
+        apart = λ i j before within. apart_from_permutation n pair order i j before (omega arith);
+      }),
+  order_of n pair,
+)
+
+pub partners_add_up : PartnersAddUp
+partners_add_up n pair numbers pairing long = partners_sum n pair numbers long (order_of n pair pairing)
+
+pub pairings_bound : PairingsBound
+pairings_bound trip n k pair numbers pairing long zero_self reach = pairing_bound trip n k pair numbers long (order_of n pair pairing) zero_self pairing.sites reach
