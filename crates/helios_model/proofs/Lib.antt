@@ -10,3 +10,5 @@ pub mod Permutations
 pub mod Sums
 pub mod Optimality
 pub mod FirstBelow
+pub mod SpellingLaws
+pub mod SpellingSteps

@@ -1,18 +1,19 @@
 -- A matrix passes the tests of its names and round trips.
 use Rattle.std.proofs.Common.{◌≡◌, ℕ, zero, suc, ◌+◌, ◌*◌, ◌/◌, ◌%◌, ◌<◌, ◌≤◌, Bool, true, false, ◌&&◌, ◌||◌, List, [], ◌∷◌, None, length, get_or, take, refl, sym, ◌∙◌, ap, arith}
-use Rattle.std.specs.Prelude.{nat_le, nat_lt, ◌==◌, not, All, option_map}
-use Rattle.std.specs.List.{list_any, list_all}
-use Rattle.std.proofs.lemmas.Bool.{le-leb, le-ltb, eq-eqb, ne_eqb, and_parts, and_from}
-use Rattle.std.proofs.lemmas.List.Elements.{All-get_or, All-weaker}
+use Rattle.std.specs.Prelude.{nat_lt, ◌==◌, not, option_map}
+use Rattle.std.specs.List.{list_any}
+use Rattle.std.proofs.lemmas.Bool.{le-ltb, eq-eqb, and_parts}
+use Rattle.std.proofs.lemmas.List.Elements.{All-get_or}
 use Rattle.std.proofs.lemmas.List.Folds.{list_any_at}
-use Rattle.std.proofs.lemmas.List.Sums.{list_all-from_AllPass}
 use Rattle.std.proofs.lemmas.Nat.{div_below}
 use Rattle.helios_model.specs.Limits.{longest_trip}
-use Rattle.helios_model.specs.Naming.{is_name_byte, is_name, is_bad_name}
+use Rattle.helios_model.specs.Naming.{is_bad_name}
 use Rattle.helios_model.specs.Passing.{EachMatrixPasses, EachSearchFindsFirst}
 use Rattle.helios_model.specs.Plans.{IsMatrix, trip_at}
+use Rattle.helios_model.specs.Spellings.{is_name}
 use Rattle.helios_model.specs.Squares.{is_uneven, row_and_column}
-use Rattle.helios_model.specs.Texts.{IsName, IsNameByte, all_differ, same_text}
+use Rattle.helios_model.specs.Texts.{IsName, all_differ, same_text}
+use Rattle.helios_model.proofs.SpellingSteps.{says_name}
 use Rattle.helios_model.proofs.FirstBelow.{find_first, find_none}
 
 pub each_search_finds_first : EachSearchFindsFirst
@@ -29,13 +30,6 @@ neither false c first second = second
 not_true : (b : Bool) → not b ≡ true → b ≡ false
 not_true true h = cc
 not_true false h = refl
-
-name_passes : (bytes : List ℕ) → IsName bytes → is_name bytes ≡ true
-name_passes bytes name =
-    let some : not (length bytes == 0) ≡ true = ap not (ne_eqb (length bytes) 0 (let h : 1 ≤ length bytes = name.some in λ none. omega arith)) in
-    let most : nat_le (length bytes) 32 ≡ true = le-leb (length bytes) 32 name.most in
-    let printable : list_all is_name_byte bytes ≡ true = list_all-from_AllPass is_name_byte bytes (All-weaker IsNameByte (λ b. is_name_byte b ≡ true) (λ b in_range. and_from (nat_le 33 b) (nat_le b 126) (le-leb 33 b in_range.0) (le-leb b 126 in_range.1)) bytes name.printable) in
-    and_from (not (length bytes == 0) && nat_le (length bytes) 32) (list_all is_name_byte bytes) (and_from (not (length bytes == 0)) (nat_le (length bytes) 32) some most) printable
 
 -- what no item of a list passes isn't passed at a place
 fails_at : (test : List ℕ → Bool) (xs : List (List ℕ)) (j : ℕ) → j < length xs → list_any test xs ≡ false → test (get_or xs j []) ≡ false
@@ -67,7 +61,7 @@ each_matrix_passes names trips matrix =
     let n : ℕ = length names in
     record {
       named = find_none (is_bad_name names) n (λ i low. neither (not (is_name (get_or names i []))) (list_any (same_text (get_or names i [])) (take i names))
-          (ap not (name_passes (get_or names i []) (All-get_or IsName names i [] low matrix.named)))
+          (ap not (says_name (get_or names i []) (All-get_or IsName names i [] low matrix.named)))
           (none_before names matrix.distinct i low));
       short = ap (option_map (row_and_column n)) (find_none (λ place. nat_lt longest_trip (get_or trips place 0)) (length trips) (λ k low.
           le-ltb longest_trip (get_or trips k 0) (All-get_or (λ trip. trip ≤ longest_trip) trips k 0 low matrix.short)));

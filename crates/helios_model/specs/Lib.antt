@@ -1,6 +1,7 @@
 pub mod Limits
 pub mod Texts
 pub mod Ids
+pub mod Spellings
 pub mod Transactions
 pub mod Plans
 pub mod Squares

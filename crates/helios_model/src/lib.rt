@@ -4,6 +4,7 @@
 
 mod entries;
 mod ids;
+mod keyed;
 mod keys;
 pub mod laws;
 mod limits;
@@ -22,6 +23,7 @@ mod transactions;
 
 pub use entries::{Entries, Entry, Input, Replies, Reply, State};
 pub use ids::{SiteId, Time, TxnId, TxnIds, Version};
+pub use keyed::{Keyed, keys_differ};
 pub use keys::{Key, Keys, Val};
 pub use limits::{
     GREATEST_LATENCY, LAST_READING, LAST_TIME, LONGEST_TRIP, MOST_INPUTS, MOST_ITEMS,
@@ -37,6 +39,9 @@ pub use plans::{Certificate, Matrix, Name, Names, Plan};
 pub use records::{CommitEvent, Commits, Record, Records};
 pub use short::{each_short_pair_is_found, first_short};
 pub use squares::{first_away, first_too_long, first_uneven};
+pub use texts::{
+    Misspelled, ids_are_read_again, is_name, key_from, value_from, versions_are_read_again,
+};
 pub use transactions::{
     Ask, Prepare, PutItem, Puts, ReadItem, Reads, WriteItem, Writes, conflicts,
 };

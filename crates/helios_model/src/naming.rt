@@ -1,25 +1,12 @@
-//! Which texts are names of sites, and the first text of a list that may not stand there.
+//! The first text of a list that may not stand there as the name of a site.
 ghost use Rattle.std.specs.Prelude.{◌≡◌, ◌<◌, [], All, IfNone, IfOk, IsTrue, length, map, slice_index_or, string_bytes};
-ghost use Rattle.std.specs.List.{list_all, list_any};
-ghost use Rattle.helios_model.specs.Naming.{first_bad_name, is_bad_name, is_name, is_name_byte, AreNames};
+ghost use Rattle.std.specs.List.{list_any};
+ghost use Rattle.helios_model.specs.Naming.{first_bad_name, is_bad_name, AreNames};
 ghost use Rattle.helios_model.specs.Texts.{same_text};
 
-use crate::limits::MOST_NAME_BYTES;
-use crate::plans::{Name, Names};
+use crate::plans::Name;
+use crate::texts::is_name;
 use std::alloc::{AllocError, Global};
-
-fn are_printable(bytes: &[u8]) -> bool
-    ensures { result ≡ list_all is_name_byte bytes.now }
-{
-    bytes.iter().all(|b| *b >= 33 && *b <= 126)
-}
-
-fn is_name(text: &str) -> bool
-    ensures { result ≡ is_name text.now }
-{
-    let bytes = text.as_bytes();
-    !bytes.is_empty() && bytes.len() <= MOST_NAME_BYTES && are_printable(bytes)
-}
 
 fn is_among(names: &[Name], name: &Name) -> bool
     ensures { result ≡ list_any (same_text name.now) names.now }

@@ -1,7 +1,8 @@
 -- Numbers and arrays in a JSON value.
-use Rattle.std.specs.Prelude.{ℕ, ℤ, ◌==◌, List, [], ◌∷◌, length, Option, Some, None, option_map, option_and_then, if◌then◌else◌}
+use Rattle.std.specs.Prelude.{ℕ, ℤ, ◌==◌, List, length, Option, Some, None, option_map, option_and_then, if◌then◌else◌}
 use Rattle.std.specs.List.{flat_map}
-use Rattle.serde_json.specs.Data.{Data, Items, no_items, item}
+use Rattle.serde_json.specs.Data.{Data}
+pub use Rattle.json_text.specs.Lists.{each_of}
 use Rattle.serde_json.specs.Find.{as_array, as_number, as_u64, as_i64}
 
 -- a number that is whole, at least 0 and below 2 ^ 64, and written without a point or an exponent
@@ -11,11 +12,6 @@ whole_number d = option_and_then as_u64 (as_number d)
 -- a number that is whole, from -2 ^ 63 to 2 ^ 63 - 1, and written without a point or an exponent
 abbrev pub integer : Data → Option ℤ
 integer d = option_and_then as_i64 (as_number d)
-
--- each item as f gives it, nothing where f gives nothing of some item
-abbrev pub each_of : {T : Type 0} → (Data → Option T) → Items → Option (List T)
-each_of f no_items = Some []
-each_of f (item d ds) = option_and_then (λ x. option_map (λ xs. x ∷ xs) (each_of f ds)) (f d)
 
 -- an array, each item as f gives it
 unfoldable pub array_of : {T : Type 0} → (Data → Option T) → Data → Option (List T)

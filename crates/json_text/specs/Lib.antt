@@ -1,4 +1,9 @@
 pub mod Arrays
+pub mod Lists
+pub mod Members
 pub mod Names
 pub mod Reading
+pub mod Spelled
 pub mod Text
+pub mod Transactions
+pub mod Unread

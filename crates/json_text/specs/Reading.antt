@@ -21,3 +21,8 @@ demand e false = Err e
 abbrev pub Gives : {A E : Type 0} → E → Result A E → Result A E → Type 0
 Gives memory (Ok x) reading = reading ≡ Ok x
 Gives memory (Err e) reading = (e ≡ memory) ⊎ (reading ≡ Err e)
+
+-- The same of what a call returned as seen by view.
+abbrev pub GivesAs : {X A E : Type 0} → (X → A) → E → Result X E → Result A E → Type 0
+GivesAs seen memory (Ok x) reading = reading ≡ Ok (seen x)
+GivesAs seen memory (Err e) reading = (e ≡ memory) ⊎ (reading ≡ Err e)

@@ -1,37 +1,13 @@
-ghost use Rattle.std.specs.Prelude.{◌≡◌, ◌*◌, List, length, Option, IfOk, IfSome, option_map, map, string_bytes};
+ghost use Rattle.std.specs.Prelude.{◌≡◌, ◌*◌, List, length, IfOk, IfSome, option_map, map, string_bytes};
 ghost use Rattle.std.specs.List.{flat_map};
-ghost use Rattle.serde_json.specs.Data.{Data};
 ghost use Rattle.serde_json.specs.Find.{as_str};
 ghost use Rattle.serde_json.specs.View.{view, items_view};
-ghost use Rattle.json_text.specs.Arrays.{whole_number, integer, each_of, array_of, row_of, square_of};
+ghost use Rattle.json_text.specs.Lists.{each_of};
+ghost use Rattle.json_text.specs.Arrays.{array_of, row_of, square_of};
 
+use crate::rows::JsonNumber;
 use serde_json::Value;
 use std::alloc::{AllocError, Global};
-
-/// A number of a JSON text.
-pub trait JsonNumber: Copy {
-    /// What a value is as such a number, nothing where it is none.
-    ghost of: { Data → Option Self };
-
-    fn from_value(value: &Value) -> Option<Self>
-        ensures { result ≡ of (view value.now) };
-}
-
-impl JsonNumber for u64 {
-    ghost of = { whole_number };
-
-    fn from_value(value: &Value) -> Option<u64> {
-        value.as_u64()
-    }
-}
-
-impl JsonNumber for i64 {
-    ghost of = { integer };
-
-    fn from_value(value: &Value) -> Option<i64> {
-        value.as_i64()
-    }
-}
 
 /// The numbers of an array, `None` where it is no array or has an item that is no such number.
 #[tactic(auto, unfolding(crate::specs::Arrays::array_of))]
