@@ -29,7 +29,7 @@ pub use limits::{
     GREATEST_LATENCY, LAST_READING, LAST_TIME, LONGEST_TRIP, MOST_INPUTS, MOST_ITEMS,
     MOST_KEY_BYTES, MOST_NAME_BYTES, MOST_OPEN, MOST_SITES, MOST_VALUE_BYTES, SPENT_TIME,
 };
-pub use naming::{first_bad_name, named};
+pub use naming::first_bad_name;
 pub use numbers::{Bytes, Places, Times};
 pub use pairings::{
     certificates_show_optimal, pairings_are_orders, pairings_bound, partners_add_up,

@@ -1,12 +1,11 @@
 //! The first text of a list that may not stand there as the name of a site.
-ghost use Rattle.std.specs.Prelude.{◌≡◌, ◌<◌, [], All, IfNone, IfOk, IsTrue, length, map, slice_index_or, string_bytes};
+ghost use Rattle.std.specs.Prelude.{◌≡◌, ◌<◌, IfNone, length};
 ghost use Rattle.std.specs.List.{list_any};
 ghost use Rattle.helios_model.specs.Naming.{first_bad_name, is_bad_name, AreNames};
 ghost use Rattle.helios_model.specs.Texts.{same_text};
 
 use crate::plans::Name;
 use crate::texts::is_name;
-use std::alloc::{AllocError, Global};
 
 fn is_among(names: &[Name], name: &Name) -> bool
     ensures { result ≡ list_any (same_text name.now) names.now }
@@ -35,11 +34,4 @@ pub fn first_bad_name(names: &[Name]) -> Option<u64>
     ensures none { IfNone result (AreNames names.now) }
 {
     bad_place(names).map(|place| place as u64)
-}
-
-/// The names with these texts. Only want of memory is an error.
-pub fn named(alloc: Global, texts: Vec<String>) -> Result<Vec<Name>, AllocError>
-    ensures { IfOk result (λ names. names.items ≡ map string_bytes texts.items) }
-{
-    texts.into_iter().map(Name::new).collect(alloc)
 }

@@ -1,7 +1,6 @@
 -- The matrix that a text says, or the first rule that the text breaks.
 use Rattle.std.specs.Prelude.{ℕ, ◌+◌, ◌&&◌, Bool, nat_le, nat_lt, List, [], ◌++◌, length, Option, Some, None, is_some, Result, Ok, Err, codes, if◌then◌else◌}
-use Rattle.helios_model.specs.Limits.{most_sites}
-use Rattle.helios_model.specs.Naming.{first_bad_name}
+use Rattle.helios_model.specs.Naming.{first_bad_name, is_count}
 use Rattle.helios_model.specs.Plans.{MatrixData}
 use Rattle.helios_model.specs.Squares.{first_away, first_too_long, first_uneven}
 use Rattle.json_text.specs.Arrays.{whole_number, row_of}
@@ -23,10 +22,6 @@ items_at name d = required refusals.BadShape (array_member name d)
 abbrev pub refused_at : (ℕ → MatrixRefusal) → Option ℕ → Result (Unit {0}) MatrixRefusal
 refused_at refusal None = Ok tt
 refused_at refusal (Some place) = Err (refusal place)
-
--- whether so many sites make a cluster
-abbrev pub is_count : ℕ → Bool
-is_count n = nat_le 1 n && nat_le n most_sites
 
 -- as many texts as sites that a cluster has, none of which is no name or stands before
 unfoldable pub names_of : Items → Result (List (List ℕ)) MatrixRefusal

@@ -1,18 +1,16 @@
-ghost use Rattle.std.specs.Prelude.{◌≡◌, ◌≤◌, IfOk, OnOk, is_some, length};
+ghost use Rattle.std.specs.Prelude.{◌≡◌, ◌≤◌, IfOk, OnOk, length};
 ghost use Rattle.helios_model.specs.Limits.{most_sites};
-ghost use Rattle.helios_model.specs.Naming.{AreNames};
-ghost use Rattle.json_text.specs.Lists.{each_of};
-ghost use Rattle.json_text.specs.Reading.{Gives, GivesAs, demand, required};
+ghost use Rattle.helios_model.specs.Naming.{AreNames, is_count};
+ghost use Rattle.json_text.specs.Reading.{Gives, GivesAs, demand};
 ghost use Rattle.serde_json.specs.Events.{items_len};
-ghost use Rattle.serde_json.specs.Find.{as_str};
 ghost use Rattle.serde_json.specs.View.{items_view, view};
-ghost use Rattle.rtt_matrix.specs.Reading.{is_count, items_at, matrix_at, matrix_of_text, names_of};
+ghost use Rattle.rtt_matrix.specs.Reading.{items_at, matrix_at, matrix_of_text, names_of};
 
 use crate::checks::check_trips;
 use crate::refusal::MatrixRefusal;
 use crate::rows::trips;
-use helios_model::{MOST_SITES, Matrix, Name, Names, first_bad_name};
-use json_text::{NameReader, are_texts, array_member, read_parts, value_of};
+use helios_model::{MOST_SITES, Matrix, Names, first_bad_name};
+use json_text::{are_texts, array_member, read_names, value_of};
 use serde_json::Value;
 use std::alloc::Global;
 
@@ -37,17 +35,6 @@ fn check_count(texts: &[Value]) -> Result<(), MatrixRefusal>
     Ok(())
 }
 
-#[tactic(auto, using(crate::proofs::Counting::parts_of_all, crate::proofs::Counting::read_len))]
-fn copied(alloc: Global, texts: &[Value]) -> Result<Vec<Name>, MatrixRefusal>
-    ensures exact { GivesAs (λ v. v.items) MatrixRefusal.NoMemory result (required MatrixRefusal.BadShape (each_of as_str (items_view texts.now))) }
-    ensures size { IfOk result (λ v. length v.items ≡ length texts.now) }
-{
-    match read_parts(alloc, texts, texts.len(), &NameReader) {
-        Ok(names) => Ok(names),
-        Err(unread) => Err(unread.because(MatrixRefusal::BadShape)),
-    }
-}
-
 // The names of a cluster's sites. How many there are is tested before the first is copied.
 #[tactic(auto, unfolding(crate::specs::Reading::names_of))]
 fn names(alloc: Global, texts: &[Value]) -> Result<Names, MatrixRefusal>
@@ -57,7 +44,7 @@ fn names(alloc: Global, texts: &[Value]) -> Result<Names, MatrixRefusal>
     ensures names { IfOk result AreNames }
 {
     check_count(texts)?;
-    let names = copied(alloc, texts)?;
+    let names = read_names(alloc, texts).map_err(|unread| unread.because(MatrixRefusal::BadShape))?;
     match first_bad_name(names.as_slice()) {
         None => Ok(Names::new(names)),
         Some(place) => Err(MatrixRefusal::BadName(place)),
