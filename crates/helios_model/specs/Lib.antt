@@ -4,8 +4,13 @@ pub mod Ids
 pub mod Spellings
 pub mod Transactions
 pub mod Plans
+pub mod Squares
+pub mod Naming
+pub mod Passing
 pub mod Offset
 pub mod Optimal
+pub mod Short
+pub mod Pairings
 pub mod Log
 pub mod Node
 pub mod Settle
