@@ -2,7 +2,7 @@ pub mod Worlds
 pub mod Placed
 pub mod Lists
 pub mod Ids
-pub mod Push
+pub mod OneMore
 pub mod Committed
 pub mod Fits
 pub mod PoolSteps
@@ -20,3 +20,4 @@ pub mod SerialHistories
 pub mod ToldLaws
 pub mod Safe
 pub mod Ceilings
+pub mod Spelling

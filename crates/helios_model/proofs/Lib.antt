@@ -12,3 +12,4 @@ pub mod Optimality
 pub mod FirstBelow
 pub mod SpellingLaws
 pub mod SpellingSteps
+pub mod Overlaps

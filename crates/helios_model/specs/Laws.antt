@@ -1,3 +1,4 @@
+-- The laws that hold in each world that steps reach, by subject.
 pub mod Reached
 pub mod Placed
 pub mod Shapes
@@ -8,3 +9,6 @@ pub mod Logs
 pub mod Histories
 pub mod Safe
 pub mod Ceiling
+pub mod Times
+pub mod Symmetry
+pub mod Moves

@@ -3,6 +3,7 @@ pub mod Texts
 pub mod Ids
 pub mod Spellings
 pub mod Transactions
+pub mod Spellable
 pub mod Plans
 pub mod Squares
 pub mod Naming

@@ -1,3 +1,4 @@
+-- What a log of records says: which transactions are open, which committed, and the current versions.
 use Rattle.std.specs.Prelude.{Bool, false, ℕ, List, [], Option, Some, None, not, if◌then◌else◌, filter, fold, find}
 use Rattle.std.specs.List.{list_any, filter_map}
 use Rattle.std.specs.Option.{option_map}

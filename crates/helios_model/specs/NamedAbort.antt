@@ -1,3 +1,4 @@
+-- What a refusal of a request names: what stood in its way when the request was answered.
 use Rattle.std.specs.Prelude.{◌≡◌, ◌≢◌, true, false, ℕ, List, Contains, take}
 use Rattle.helios_model.specs.declared.ids.TxnId.{TxnId}
 use Rattle.helios_model.specs.declared.ids.Version.{Version}
@@ -10,9 +11,8 @@ use Rattle.helios_model.specs.declared.records.Record.TheVariants.{Prepare, Comm
 use Rattle.helios_model.specs.declared.entries.Reply.{Reply}
 use Rattle.helios_model.specs.declared.entries.Reply.TheVariants.{Prepared, Committed, Overwritten, Conflict, ClockSpent, PoolFull}
 use Rattle.helios_model.specs.declared.records.CommitEvent.{CommitEvent}
-use Rattle.helios_model.specs.Transactions.{Transaction, Asking, conflict, writes_key}
+use Rattle.helios_model.specs.Transactions.{Transaction, Asking, keys_conflict, touched_by, touched_by_ask, writes_key}
 use Rattle.helios_model.specs.Log.{finished}
-use Rattle.helios_model.specs.Request.{asked}
 use Rattle.helios_model.specs.Plans.{PlanData}
 use Rattle.helios_model.specs.World.{World, Told, node_of}
 
@@ -36,13 +36,13 @@ pub record IsOverwritten (history : List CommitEvent) (records : List Record) (a
   pub other : read.version ≢ version
   pub committed : IsVersionIn history records key version
 
--- an unfinished transaction among these records conflicts with what is asked
+-- an unfinished transaction among these records touches a key of what is asked, and one of the two writes it
 pub record IsConflict (records : List Record) (ask : Asking) (id : TxnId) : Type 0 where
   pub other : Transaction
   pub named : other.id ≡ id
   pub logged : Contains records (Prepare other)
   pub open_then : finished records id ≡ false
-  pub conflicts : conflict (asked records id ask) other ≡ true
+  pub conflicts : keys_conflict (touched_by_ask ask) (touched_by other) ≡ true
 
 -- a refusal of a request names what stood in its way among the first records of the log
 abbrev pub IsNamed : List CommitEvent → List Record → Asking → Reply → Type 0

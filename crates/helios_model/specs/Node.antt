@@ -1,3 +1,4 @@
+-- A site's node: its number, its whole log and its table of times.
 use Rattle.std.specs.Prelude.{Bool, ℕ, ◌+◌, ◌*◌, List, [], ◌∷◌, ◌++◌, Option, Some, None, ◌&&◌, nat_eq, nat_le, min, max, replicate, slice_index, slice_set, if◌then◌else◌, find, filter, is_some}
 use Rattle.helios_model.specs.declared.ids.TxnId.{TxnId}
 use Rattle.helios_model.specs.declared.records.Record.{Record}

@@ -1,3 +1,4 @@
+-- The planned offset between two sites, and the tests of it without a subtraction.
 use Rattle.std.specs.Prelude.{◌≢◌, ◌↔◌, ℕ, ℤ, pos, ◌+ℤ◌, ◌-ℤ◌, ◌≤ℤ◌, ◌+◌, ◌≤◌, Bool, IsTrue, nat_eq, nat_le, if◌then◌else◌}
 use Rattle.helios_model.specs.Plans.{PlanData, rtt, latency}
 

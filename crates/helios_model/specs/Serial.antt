@@ -1,3 +1,4 @@
+-- Serial histories: each commit reads and overwrites what the ones before it wrote.
 use Rattle.std.specs.Prelude.{◌≡◌, false, ℕ, List, [], ◌∷◌, All, AllPairs}
 use Rattle.helios_model.specs.declared.ids.Version.{Version}
 use Rattle.helios_model.specs.declared.ids.Version.TheVariants.{Initial}

@@ -1,3 +1,4 @@
+-- What commits: the own open transactions past whose offsets the node has heard of every other site.
 use Rattle.std.specs.Prelude.{Bool, ℕ, ◌+◌, List, nat_eq, ◌||◌, filter, map, fold}
 use Rattle.std.specs.List.{list_all, range_with_len}
 use Rattle.helios_model.specs.declared.ids.TxnId.{TxnId}

@@ -1,11 +1,17 @@
+-- One step of a node: an input is answered by its rule.
 use Rattle.std.specs.Prelude.{Bool, true, false, ℕ, List, ◌&&◌, fold}
 use Rattle.helios_model.specs.declared.entries.Entry.{Entry}
 use Rattle.helios_model.specs.declared.entries.Input.{Input}
 use Rattle.helios_model.specs.declared.entries.Input.TheVariants.{Request}
 use Rattle.helios_model.specs.declared.entries.Reply.TheVariants.{ClockSpent}
 use Rattle.helios_model.specs.Plans.{PlanData}
+use Rattle.helios_model.specs.Spellable.{IsSpellableAsk}
 use Rattle.helios_model.specs.Node.{Node, is_spent}
 use Rattle.helios_model.specs.Request.{Stepped, request}
+
+-- what a site may be asked
+abbrev pub MayBeAsked : PlanData → ℕ → Input → Type 0
+MayBeAsked plan site (Request ask) = IsSpellableAsk ask
 
 -- the inputs that a journal keeps
 abbrev pub is_journaled : Input → Bool

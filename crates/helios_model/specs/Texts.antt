@@ -32,6 +32,10 @@ IsValue bytes = length bytes ≤ most_value_bytes
 abbrev pub same_text : List ℕ → List ℕ → Bool
 same_text a b = pointwise nat_eq a b
 
+-- whether the text is one of these
+abbrev pub contains_text : List (List ℕ) → List ℕ → Bool
+contains_text texts text = list_any (λ other. same_text other text) texts
+
 -- no two items have the same text
 abbrev pub all_differ : {X : Type 0} → (X → List ℕ) → List X → Bool
 all_differ text [] = true

@@ -1,4 +1,5 @@
-use Rattle.std.specs.Prelude.{Bool, ℕ, ◌<◌, ◌≤◌, List, [], ◌∷◌, ◌++◌, length, nat_eq, filter, replicate, slice_index_or, slice_set, drop, fold}
+-- Worlds: what all sites have journaled, told and committed, and the steps from one world to the next.
+use Rattle.std.specs.Prelude.{◌≡◌, Bool, ℕ, ◌<◌, ◌≤◌, List, [], ◌∷◌, ◌++◌, length, nat_eq, filter, replicate, slice_index_or, slice_set, drop, fold, All}
 use Rattle.std.specs.List.{filter_map, flat_map}
 use Rattle.helios_model.specs.declared.entries.Entry.{Entry}
 use Rattle.helios_model.specs.declared.entries.Input.{Input}
@@ -9,7 +10,7 @@ use Rattle.helios_model.specs.Limits.{most_inputs}
 use Rattle.helios_model.specs.Plans.{PlanData, count_of}
 use Rattle.helios_model.specs.Log.{commit_in}
 use Rattle.helios_model.specs.Node.{Node, empty_node}
-use Rattle.helios_model.specs.Step.{step, after_entry, after_entries, is_journaled}
+use Rattle.helios_model.specs.Step.{MayBeAsked, step, after_entry, after_entries, is_journaled}
 
 -- a reply that was released: its site, its input, and the length of the site's log just before that input
 pub record Told : Type 0 where
@@ -38,9 +39,13 @@ first_world plan = record { journals = replicate (count_of plan) []; told = []; 
 abbrev pub journal_of : World → ℕ → List (List Entry)
 journal_of w site = slice_index_or w.journals site []
 
+-- the entries of a site's journal, in their order
+abbrev pub entries_of : World → ℕ → List Entry
+entries_of w site = flat_map (λ batch. batch) (journal_of w site)
+
 -- the site's node is what its journal's entries make of the empty node
 abbrev pub node_of : PlanData → World → ℕ → Node
-node_of plan w site = after_entries plan (empty_node plan site) (flat_map (λ batch. batch) (journal_of w site))
+node_of plan w site = after_entries plan (empty_node plan site) (entries_of w site)
 
 -- the replies to these entries, one after the other
 abbrev pub replies : PlanData → Node → List Entry → List Told
@@ -73,12 +78,14 @@ done plan w site entries = record {
 abbrev pub happens : PlanData → World → Event → World
 happens plan w (Batch site entries Done) = done plan w site entries
 
--- what a step must be
+-- one to sixteen inputs that this site of the plan may be asked, at any readings of its clock
 pub record IsBatch (plan : PlanData) (site : ℕ) (entries : List Entry) : Type 0 where
   pub here : site < count_of plan
   pub some : 1 ≤ length entries
   pub few : length entries ≤ most_inputs
+  pub each : All (λ e. MayBeAsked plan site e.input) entries
 
+-- what a step of the world must be
 abbrev pub MayHappen : PlanData → World → Event → Type 0
 MayHappen plan w (Batch site entries ending) = IsBatch plan site entries
 
@@ -89,3 +96,9 @@ run plan w events = fold (happens plan) w events
 abbrev pub MayRun : PlanData → World → List Event → Type 0
 MayRun plan w [] = Unit {0}
 MayRun plan w (e ∷ es) = MayHappen plan w e × MayRun plan (happens plan w e) es
+
+-- permitted steps reach this world from the first one
+pub record StepsReach (plan : PlanData) (w : World) : Type 0 where
+  pub events : List Event
+  pub may : MayRun plan (first_world plan) events
+  pub reach : w ≡ run plan (first_world plan) events

@@ -38,7 +38,7 @@ impl Keyed for WriteItem {
     }
 }
 
-fn is_among<T: Keyed>(items: &[T], key: &Key) -> bool
+pub(crate) fn is_among<T: Keyed>(items: &[T], key: &Key) -> bool
     ensures { result ≡ list_any (λ item. same_text (T.key_of item) key.now) items.now }
 {
     items.iter().any(|item| *item.key() == *key)

@@ -1,9 +1,13 @@
-// Each law is carried by a function with an empty body, whose one clause states it of every plan and every list of steps.
+//! Each law is carried by a function with an empty body, whose one clause states it of every plan and every list of
+//! steps. What holds only as long as sites send each other nothing says so.
 ghost use Rattle.helios_model.specs.Offset.{OffsetsAreTested};
 ghost use Rattle.helios_model.specs.Laws.Placed.{EachNodeIsPlaced};
 ghost use Rattle.helios_model.specs.Laws.Ceiling.{EachNodeStaysBelow};
 ghost use Rattle.helios_model.specs.Laws.Logs.{EachTimeRises, EachLogIsOwn, EachIdIsGivenOnce, EachEndingFollows, EachConflictIsOrdered, EachEarlierEndsFirst, EachVersionWasCurrent, EachCommitWaited};
 ghost use Rattle.helios_model.specs.Laws.Safe.{EachWorldIsSafe};
+ghost use Rattle.helios_model.specs.Laws.Moves.{BatchMovesOneNode};
+ghost use Rattle.helios_model.specs.Laws.Symmetry.{ConflictIsSymmetric};
+ghost use Rattle.helios_model.specs.Laws.Times.{AskedIsTransaction, EachEntryMayBeAsked, EachRecordIsSpellable, EachReplyIsSpellable, EachTableIsSmall};
 ghost use Rattle.helios_model.specs.Laws.Histories.{SerialAtOneSite, HistoryIsSerial, EachHistoryIsCommits, EachRefusalIsNamed, EachToldStays, EachWorldGrows};
 
 /// The tests of an offset without a subtraction say what the signed number says.
@@ -11,10 +15,25 @@ pub fn offsets_are_tested()
     ensures { OffsetsAreTested }
 {}
 
+/// Conflict is the same from both sides.
+pub fn conflict_is_symmetric()
+    ensures { ConflictIsSymmetric }
+{}
+
+/// What a request within the limits becomes, over any log, is a transaction within the limits.
+pub fn asked_is_transaction()
+    ensures { AskedIsTransaction }
+{}
+
 /// In each world that is reached there is a journal for each site, and each site's node has the site's number
 /// and a table with one time for each two sites.
 pub fn each_node_is_placed()
     ensures { EachNodeIsPlaced }
+{}
+
+/// A batch moves its own site's node by its entries, and no other node; each site has its journal from the first world on.
+pub fn batch_moves_one_node()
+    ensures { BatchMovesOneNode }
 {}
 
 /// In each site's log the own times of each origin rise strictly from above 0, and each is at most the time that the
@@ -28,12 +47,35 @@ pub fn each_node_stays_below()
     ensures { EachNodeStaysBelow }
 {}
 
+/// Each entry of a site's journal is one that the site may be asked: a request within the limits, of versions whose ids
+/// have a site below 32 and a time from 1 to 2^62 half microseconds.
+pub fn each_entry_may_be_asked()
+    ensures { EachEntryMayBeAsked }
+{}
+
+/// No time in a site's table is above 2^62 half microseconds.
+pub fn each_table_is_small()
+    ensures { EachTableIsSmall }
+{}
+
+/// In each world of an accepted plan each record of a site's log has a spelling: each id in it has a time from 1 to 2^62
+/// half microseconds, and its keys and values are within their limits.
+pub fn each_record_is_spellable()
+    ensures { EachRecordIsSpellable }
+{}
+
+/// In each world of an accepted plan each reply that was told has a spelling.
+pub fn each_reply_is_spellable()
+    ensures { EachReplyIsSpellable }
+{}
+
 /// Each record of a site's log is the site's own. This holds as long as sites send each other no messages.
 pub fn each_log_is_own()
     ensures { EachLogIsOwn }
 {}
 
-/// No two Prepares of a log have one id, and Prepares of one id in two logs are the same Prepare.
+/// No two Prepares of a log have one id, and Prepares of one id in two logs are the same Prepare. As long as sites send
+/// each other no messages, no two logs hold one id.
 pub fn each_id_is_given_once()
     ensures { EachIdIsGivenOnce }
 {}
@@ -61,7 +103,8 @@ pub fn each_version_was_current()
     ensures { EachVersionWasCurrent }
 {}
 
-/// Each own Commit of a log waited until the site knew every other site up to the time of its id and the offset between them.
+/// Each own Commit of a log waited: by the site's table as it stood at the Commit, the site knew every other site up to the
+/// time of the id and the offset between them; and by the table of today it still does.
 pub fn each_commit_waited()
     ensures { EachCommitWaited }
 {}
@@ -71,7 +114,8 @@ pub fn serial_at_one_site()
     ensures { SerialAtOneSite }
 {}
 
-/// In each world of an accepted plan the history is a serial history that gives every version read.
+/// In each world of an accepted plan the history is a serial history that gives every version read. As long as sites send
+/// each other no messages, at most one site of an accepted plan ever commits, so that across sites this says no more yet.
 pub fn history_is_serial()
     ensures { HistoryIsSerial }
 {}

@@ -16,8 +16,6 @@ mod plans;
 mod records;
 mod short;
 mod squares;
-#[cfg(test)]
-mod tests;
 mod texts;
 mod transactions;
 

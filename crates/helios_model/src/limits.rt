@@ -25,7 +25,7 @@ pub const MOST_ITEMS: usize = 16;
 pub const MOST_INPUTS: usize = 16;
 
 /// The most own transactions that may be unfinished at a site.
-pub const MOST_OPEN: usize = 65_536;
+pub const MOST_OPEN: u64 = 65_536;
 
 /// The greatest time in an id, a table or a message, in half microseconds.
 pub const LAST_TIME: u64 = 1 << 62;

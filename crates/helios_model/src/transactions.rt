@@ -1,14 +1,15 @@
 //! What a transaction reads and writes, transactions and requests within their limits, and which of them
 //! conflict.
-ghost use Rattle.std.specs.Prelude.{◌≡◌, ℕ, List, IfOk, ◌||◌, ◌↔◌, IsSome, IfSome};
+ghost use Rattle.std.specs.Prelude.{◌≡◌, ℕ, List, IfOk, ◌||◌, ◌↔◌, IsSome, IfSome, map};
 ghost use Rattle.helios_model.specs.declared.transactions.PutItem.{PutItem};
 ghost use Rattle.helios_model.specs.declared.transactions.ReadItem.{ReadItem};
 ghost use Rattle.helios_model.specs.declared.transactions.WriteItem.{WriteItem};
 ghost use Rattle.std.specs.List.{list_any};
-ghost use Rattle.helios_model.specs.Texts.{same_text, all_differ};
-ghost use Rattle.helios_model.specs.Transactions.{IsTransaction, IsAsk, conflict, overwrites};
+ghost use Rattle.helios_model.specs.Texts.{contains_text, all_differ, same_text};
+ghost use Rattle.helios_model.specs.Transactions.{IsTransaction, IsAsk, conflict, keys_conflict, touched_by, touched_by_ask, writes_key};
 
 use crate::ids::{TxnId, Version};
+use crate::keyed::{Keyed, is_among, keys_differ};
 use crate::keys::{Key, Val};
 use crate::limits::MOST_ITEMS;
 use std::alloc::AllocError;
@@ -150,52 +151,33 @@ impl Writes {
     }
 }
 
-fn is_read(reads: &[ReadItem], key: &Key) -> bool
-    ensures { result ≡ list_any (λ r. same_text r.key key.now) reads.now }
+fn is_touched<R: Keyed, W: Keyed>(reads: &[R], writes: &[W], key: &Key) -> bool
+    ensures { result ≡ (list_any (λ r. same_text (R.key_of r) key.now) reads.now || list_any (λ w. same_text (W.key_of w) key.now) writes.now) }
 {
-    reads.iter().any(|r| r.key == *key)
-}
-
-fn is_written(writes: &[WriteItem], key: &Key) -> bool
-    ensures { result ≡ list_any (λ w. same_text w.key key.now) writes.now }
-{
-    writes.iter().any(|w| w.key == *key)
-}
-
-fn is_put(puts: &[PutItem], key: &Key) -> bool
-    ensures { result ≡ list_any (λ p. same_text p.key key.now) puts.now }
-{
-    puts.iter().any(|p| p.key == *key)
+    is_among(reads, key) || is_among(writes, key)
 }
 
 #[tactic(auto, using(crate::proofs::Slices::first_and_rest))]
-fn reads_differ(reads: &[ReadItem]) -> bool
-    ensures { result ≡ all_differ (λ r. r.key) reads.now }
+fn is_overwriting<T: Keyed, R: Keyed, W: Keyed>(written: &[T], reads: &[R], writes: &[W]) -> bool
+    ensures { result ≡ list_any (λ t. list_any (λ r. same_text (R.key_of r) (T.key_of t)) reads.now || list_any (λ w. same_text (W.key_of w) (T.key_of t)) writes.now) written.now }
 {
-    match reads {
-        [] => true,
-        [first, rest @ ..] => !is_read(rest, &first.key) && reads_differ(rest),
+    match written {
+        [] => false,
+        [first, rest @ ..] => is_touched(reads, writes, first.key())
+            || is_overwriting(rest, reads, writes),
     }
 }
 
-#[tactic(auto, using(crate::proofs::Slices::first_and_rest))]
-fn writes_differ(writes: &[WriteItem]) -> bool
-    ensures { result ≡ all_differ (λ w. w.key) writes.now }
+/// Whether some key that is written on one side is read or written on the other.
+fn lists_conflict<R: Keyed, W: Keyed, S: Keyed, V: Keyed>(
+    reads: &[R],
+    writes: &[W],
+    other_reads: &[S],
+    other_writes: &[V],
+) -> bool
+    ensures { result ≡ keys_conflict (record { read = map R.key_of reads.now; written = map W.key_of writes.now }) (record { read = map S.key_of other_reads.now; written = map V.key_of other_writes.now }) }
 {
-    match writes {
-        [] => true,
-        [first, rest @ ..] => !is_written(rest, &first.key) && writes_differ(rest),
-    }
-}
-
-#[tactic(auto, using(crate::proofs::Slices::first_and_rest))]
-fn puts_differ(puts: &[PutItem]) -> bool
-    ensures { result ≡ all_differ (λ p. p.key) puts.now }
-{
-    match puts {
-        [] => true,
-        [first, rest @ ..] => !is_put(rest, &first.key) && puts_differ(rest),
-    }
+    is_overwriting(writes, other_reads, other_writes) || is_overwriting(other_writes, reads, writes)
 }
 
 /// A transaction that a site took: at most 16 reads and 16 writes, the keys distinct within each.
@@ -224,8 +206,8 @@ impl Prepare {
     {
         if reads.items().len() <= MOST_ITEMS
             && writes.items().len() <= MOST_ITEMS
-            && reads_differ(reads.items())
-            && writes_differ(writes.items())
+            && keys_differ(reads.items())
+            && keys_differ(writes.items())
         {
             Some(Prepare { id, reads, writes })
         } else {
@@ -261,6 +243,12 @@ impl Prepare {
         &self.writes
     }
 
+    pub fn is_writing(&self, key: &Key) -> bool
+        ensures { result ≡ writes_key self.now key.now }
+    {
+        is_among(self.writes().items(), key)
+    }
+
     pub fn copy(&self) -> Result<Prepare, AllocError>
         ensures { IfOk result (λ copied. copied ≡ self.now) }
     {
@@ -293,8 +281,8 @@ impl Ask {
     {
         if reads.items().len() <= MOST_ITEMS
             && puts.items().len() <= MOST_ITEMS
-            && reads_differ(reads.items())
-            && puts_differ(puts.items())
+            && keys_differ(reads.items())
+            && keys_differ(puts.items())
         {
             Some(Ask { reads, puts })
         } else {
@@ -324,6 +312,27 @@ impl Ask {
         &self.puts
     }
 
+    /// Gives up what it reads and what it puts.
+    pub fn into_parts(self) -> (Reads, Puts)
+        ensures reads { result.0 ≡ self.reads }
+        ensures puts { result.1 ≡ self.puts }
+        ensures limits { IsAsk self.reads self.puts }
+    {
+        (self.reads, self.puts)
+    }
+
+    /// Whether some key that the request or the transaction writes is read or written by the other.
+    pub fn conflicts_with(&self, p: &Prepare) -> bool
+        ensures { result ≡ keys_conflict (touched_by_ask self.now) (touched_by p.now) }
+    {
+        lists_conflict(
+            self.reads().items(),
+            self.puts().items(),
+            p.reads().items(),
+            p.writes().items(),
+        )
+    }
+
     pub fn copy(&self) -> Result<Ask, AllocError>
         ensures { IfOk result (λ copied. copied ≡ self.now) }
     {
@@ -331,20 +340,14 @@ impl Ask {
     }
 }
 
-fn is_overwriting(a: &Prepare, b: &Prepare) -> bool
-    ensures { result ≡ overwrites a.now b.now }
-{
-    let reads = b.reads().items();
-    let writes = b.writes().items();
-    a.writes()
-        .items()
-        .iter()
-        .any(|w| is_read(reads, &w.key) || is_written(writes, &w.key))
-}
-
 /// Whether some key that one of the two writes is read or written by the other.
 pub fn conflicts(a: &Prepare, b: &Prepare) -> bool
     ensures { result ≡ conflict a.now b.now }
 {
-    is_overwriting(a, b) || is_overwriting(b, a)
+    lists_conflict(
+        a.reads().items(),
+        a.writes().items(),
+        b.reads().items(),
+        b.writes().items(),
+    )
 }

@@ -3,4 +3,4 @@ pub mod Limits
 pub mod Grows
 pub mod Stands
 pub mod Reaches
-pub mod TwoSites
+pub mod Telling

@@ -14,7 +14,7 @@ use Rattle.schedule_replay.specs.Held.{Held}
 use Rattle.schedule_replay.specs.Report.{commit_line, refusals_in, site_line}
 use Rattle.schedule_replay.specs.Standing.{reply_lines}
 use Rattle.helios_model.specs.Ids.{same_id}
-use Rattle.helios_model.specs.Transactions.{Transaction, conflict}
+use Rattle.helios_model.specs.Transactions.{Transaction, Asking, keys_conflict, touched_by, touched_by_ask}
 use Rattle.helios_model.specs.Log.{prepare_in, commit_in, version_after, finished}
 use Rattle.helios_model.specs.Plans.{PlanData}
 use Rattle.helios_model.specs.Node.{Node, is_own}
@@ -40,12 +40,12 @@ current_drop log key version i d h = rw (drop_more log i d h) refl
 abbrev pub open_rest : List Record → List Record → List Transaction
 open_rest log rest = filter (λ p. not (finished log p.id)) (filter_map prepare_in rest)
 
-abbrev pub clash_rest : List Record → Transaction → List Record → Option Transaction
-clash_rest log p rest = find (conflict p) (open_rest log rest)
+abbrev pub clash_rest : List Record → Asking → List Record → Option Transaction
+clash_rest log ask rest = find (λ q. keys_conflict (touched_by_ask ask) (touched_by q)) (open_rest log rest)
 
-pub clash_drop : (log : List Record) (p : Transaction) (i : ℕ) (d : Record) → i < length log
-    → clash_rest log p (drop i log) ≡ clash_rest log p (get_or log i d ∷ drop (i + 1) log)
-clash_drop log p i d h = rw (drop_more log i d h) refl
+pub clash_drop : (log : List Record) (ask : Asking) (i : ℕ) (d : Record) → i < length log
+    → clash_rest log ask (drop i log) ≡ clash_rest log ask (get_or log i d ∷ drop (i + 1) log)
+clash_drop log ask i d h = rw (drop_more log i d h) refl
 
 abbrev pub own_open_rest : List Record → ℕ → List Record → List Transaction
 own_open_rest log site rest = filter (is_own site) (open_rest log rest)

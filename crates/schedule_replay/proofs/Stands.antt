@@ -9,8 +9,7 @@ use Rattle.std.proofs.lemmas.List.Sums.{sum_by-append}
 use Rattle.helios_model.specs.Plans.{PlanData, count_of}
 use Rattle.helios_model.specs.Step.{after_entries}
 use Rattle.helios_model.specs.World.{World, Told, done, first_world, node_of, own_commits, replies}
-use Rattle.helios_model.proofs.LawProofs.Placed.{node_placed}
-use Rattle.helios_model.proofs.LawProofs.Worlds.{first_journals, first_node, journals_stay, node_elsewhere, node_here}
+use Rattle.helios_model.specs.Laws.Moves.{BatchMovesOneNode}
 use Rattle.schedule_replay.specs.declared.inputs.Planned.{Planned}
 use Rattle.schedule_replay.specs.declared.steps.Step.{Step}
 use Rattle.schedule_replay.specs.declared.steps.Step.TheVariants.{Batch}
@@ -18,7 +17,7 @@ use Rattle.schedule_replay.specs.declared.sites.Output.{Output}
 use Rattle.schedule_replay.specs.declared.schedule.Report.{Report}
 use Rattle.schedule_replay.specs.Held.{Held}
 use Rattle.schedule_replay.specs.Replay.{IsReport}
-use Rattle.schedule_replay.specs.Planning.{after_step, after_steps, entries_for, inputs_of, site_of}
+use Rattle.schedule_replay.specs.Entries.{after_step, after_steps, entries_for, inputs_of, site_of}
 use Rattle.schedule_replay.specs.Replayable.{IsPlannedBatch, IsPlannedStep}
 use Rattle.schedule_replay.specs.Report.{commit_line, is_refusal, lines_from, reached, refusals_in, site_line, step_lines}
 use Rattle.schedule_replay.specs.Standing.{IsStandingAt, core_after, first_held, held_of, reply_lines}
@@ -38,25 +37,25 @@ lines_push plan w number (x ∷ xs) s =
 pub refusals_push : (told more : List Told) → refusals_in (told ++ more) ≡ refusals_in told + refusals_in more
 refusals_push told more = sum_by-append (λ t. if is_refusal t.reply then 1 else 0) told more
 
-pub journals_of : (plan : PlanData) (steps : List Step) (w : World) → length w.journals ≡ count_of plan → length (after_steps plan w steps).journals ≡ count_of plan
-journals_of plan [] w h = h
-journals_of plan (Batch site inputs ∷ steps) w h =
-    journals_of plan steps (after_step plan w (Batch site inputs)) (journals_stay plan w site (entries_for (node_of plan w site).log inputs) ∙ h)
+pub journals_of : BatchMovesOneNode → (plan : PlanData) (steps : List Step) (w : World) → length w.journals ≡ count_of plan → length (after_steps plan w steps).journals ≡ count_of plan
+journals_of law plan [] w h = h
+journals_of law plan (Batch site inputs ∷ steps) w h =
+    journals_of law plan steps (after_step plan w (Batch site inputs)) (law.journals_stay plan w site (entries_for (node_of plan w site).log inputs) ∙ h)
 
 -- the world that one step more reaches
 pub reached_push : (plan : PlanData) (steps : List Step) (s : Step) → reached plan (steps ++ s ∷ []) ≡ after_step plan (reached plan steps) s
 reached_push plan steps s = fold-append (after_step plan) (first_world plan) steps (s ∷ [])
 
 -- a step more at a site keeps what a replay stands for
-module _ (plan : PlanData) (before : List Step) (site : ℕ) (inputs : List Planned) (cores : List Held) (low : site < count_of plan) where
+module _ (law : BatchMovesOneNode) (plan : PlanData) (before : List Step) (site : ℕ) (inputs : List Planned) (cores : List Held) (low : site < count_of plan) where
   pub here : World
   here = reached plan before
 
   pub batch_node : node_of plan (after_step plan (reached plan before) (Batch site inputs)) site
       ≡ after_entries plan (node_of plan (reached plan before) site) (entries_for (node_of plan (reached plan before) site).log inputs)
   batch_node =
-      let sites : length (reached plan before).journals ≡ count_of plan = journals_of plan before (first_world plan) (first_journals plan) in
-      node_here plan (reached plan before) site (entries_for (node_of plan (reached plan before) site).log inputs) (rw sites low)
+      let sites : length (reached plan before).journals ≡ count_of plan = journals_of law plan before (first_world plan) (law.first_journals plan) in
+      law.node_here plan (reached plan before) site (entries_for (node_of plan (reached plan before) site).log inputs) (rw sites low)
 
   pub nodes_push : (after : Held) → after ≡ held_of plan (after_step plan (reached plan before) (Batch site inputs)) site
       → ((k : ℕ) (d : Held) → k < count_of plan → get_or cores k d ≡ held_of plan (reached plan before) k) → length cores ≡ count_of plan
@@ -67,16 +66,16 @@ module _ (plan : PlanData) (before : List Step) (site : ℕ) (inputs : List Plan
       by_site (inl same) = rw same (get_or-set_same cores site after d (rw sites low) ∙ is)
       by_site (inr apart) =
           get_or-set_other cores site k after d apart ∙ nodes k d below
-          ∙ ap (λ n. record { plan = plan; node = n }) (sym (node_elsewhere plan (reached plan before) site k (entries_for (node_of plan (reached plan before) site).log inputs) apart))
+          ∙ ap (λ n. record { plan = plan; node = n }) (sym (law.node_elsewhere plan (reached plan before) site k (entries_for (node_of plan (reached plan before) site).log inputs) apart))
 
 -- a replay that begins stands for no steps
-pub stand_first : (plan : PlanData) (cores : List Held) (output : Output) → cores ≡ map (first_held plan) (range_with_len 0 (count_of plan))
+pub stand_first : BatchMovesOneNode → (plan : PlanData) (cores : List Held) (output : Output) → cores ≡ map (first_held plan) (range_with_len 0 (count_of plan))
     → output.text.items ≡ [] → output.commits.items ≡ [] → output.refusals ≡ 0 → IsStandingAt plan [] cores output
-stand_first plan cores output made text commits refusals = record {
+stand_first law plan cores output made text commits refusals = record {
   sites = ap length made ∙ length-map-range_with_len (first_held plan) 0 (count_of plan);
   nodes = λ site d low.
       ap (λ hs. get_or hs site d) made ∙ get_or-map-range_with_len (first_held plan) 0 (count_of plan) site site d low (zero-add site)
-      ∙ ap (λ n. record { plan = plan; node = n }) (sym (first_node plan site low));
+      ∙ ap (λ n. record { plan = plan; node = n }) (sym (law.first_node plan site low));
   lines = text;
   commits = commits;
   refusals = refusals;
@@ -98,7 +97,7 @@ cores_push plan count cores cores' h pushed made is =
     ∙ sym (map-range_with_len_more (first_held plan) 0 count count (zero-add count))
 
 -- a step more keeps what a replay stands for
-pub step_stands : (plan : PlanData) (steps before : List Step) (number site : ℕ) (inputs : List Planned) (cores : List Held) (output output' : Output) (h h' : Held) (d : Step)
+pub step_stands : BatchMovesOneNode → (plan : PlanData) (steps before : List Step) (number site : ℕ) (inputs : List Planned) (cores : List Held) (output output' : Output) (h h' : Held) (d : Step)
     → number < length steps → before ≡ take number steps → get_or steps number d ≡ Batch site inputs
     → site < count_of plan → length inputs ≡ 1 → IsStandingAt plan before cores output
     → h ≡ get_or cores site h → h' ≡ core_after h inputs
@@ -107,18 +106,18 @@ pub step_stands : (plan : PlanData) (steps before : List Step) (number site : �
     → output'.refusals ≡ output.refusals + refusals_in (replies h.plan h.node (entries_for h.node.log inputs))
     → output'.refusals ≤ output.refusals + length inputs
     → IsStandingAt plan (take (number + 1) steps) (set cores site h') output'
-step_stands plan steps before number site inputs cores output output' h h' d low is_before is_step below one standing is_core is_after text commits refusals few =
+step_stands law plan steps before number site inputs cores output output' h h' d low is_before is_step below one standing is_core is_after text commits refusals few =
     let w : World = reached plan before in
     let s : Step = Batch site inputs in
     let core : h ≡ held_of plan w site = is_core ∙ standing.nodes site h below in
     let after : take (number + 1) steps ≡ before ++ s ∷ [] = take_more steps number d low ∙ ap (λ x. take number steps ++ x ∷ []) is_step ∙ ap (λ xs. xs ++ s ∷ []) (sym is_before) in
     let long : length before ≡ number = ap length is_before ∙ length-take-le number steps (omega arith) in
     let made : h' ≡ core_after (held_of plan w site) inputs = is_after ∙ ap (λ x. core_after x inputs) core in
-    let next : h' ≡ held_of plan (after_step plan w s) site = made ∙ ap (λ n. record { plan = plan; node = n }) (sym (batch_node plan before site inputs cores below)) in
+    let next : h' ≡ held_of plan (after_step plan w s) site = made ∙ ap (λ n. record { plan = plan; node = n }) (sym (batch_node law plan before site inputs cores below)) in
     let world : after_step plan w s ≡ reached plan (before ++ s ∷ []) = sym (reached_push plan before s) in
     rw after (record {
       sites = length-set cores site h' ∙ standing.sites;
-      nodes = λ k x under. nodes_push plan before site inputs cores below h' next standing.nodes standing.sites k x under ∙ ap (λ v. held_of plan v k) world;
+      nodes = λ k x under. nodes_push law plan before site inputs cores below h' next standing.nodes standing.sites k x under ∙ ap (λ v. held_of plan v k) world;
       lines =
           text
           ∙ ap (λ t. t ++ reply_lines number (replies h.plan h.node (entries_for h.node.log inputs))) standing.lines
@@ -130,7 +129,7 @@ step_stands plan steps before number site inputs cores output output' h h' d low
           ∙ ap (λ events. events ++ own_commits h.node.site h'.node.log (length h.node.log)) standing.commits
           ∙ ap (λ x. w.history ++ own_commits x.node.site h'.node.log (length x.node.log)) core
           ∙ ap (λ x. w.history ++ own_commits (node_of plan w site).site x.node.log (length (node_of plan w site).log)) made
-          ∙ ap (λ k. w.history ++ own_commits k (core_after (held_of plan w site) inputs).node.log (length (node_of plan w site).log)) (node_placed plan w site).at_site
+          ∙ ap (λ k. w.history ++ own_commits k (core_after (held_of plan w site) inputs).node.log (length (node_of plan w site).log)) (law.site_stays plan w site)
           ∙ ap (λ v. v.history) world;
       refusals =
           refusals
@@ -160,7 +159,7 @@ step_is : (s : Step) (site : ℕ) (inputs : List Planned) → site ≡ site_of s
 step_is (Batch a b) site inputs here asked = cc
 
 -- the same, for the step that stands at a place
-pub step_at_stands : (plan : PlanData) (steps : List Step) (number site : ℕ) (inputs : List Planned) (cores : List Held) (output output' : Output) (h h' : Held) (s : Step)
+pub step_at_stands : BatchMovesOneNode → (plan : PlanData) (steps : List Step) (number site : ℕ) (inputs : List Planned) (cores : List Held) (output output' : Output) (h h' : Held) (s : Step)
     → number < length steps → s ≡ get_or steps number s → site ≡ site_of s → inputs ≡ inputs_of s
     → All (IsPlannedStep plan) steps → IsStandingAt plan (take number steps) cores output
     → h ≡ get_or cores site h → h' ≡ core_after h inputs
@@ -169,10 +168,10 @@ pub step_at_stands : (plan : PlanData) (steps : List Step) (number site : ℕ) (
     → output'.refusals ≡ output.refusals + refusals_in (replies h.plan h.node (entries_for h.node.log inputs))
     → output'.refusals ≤ output.refusals + length inputs
     → IsStandingAt plan (take (number + 1) steps) (set cores site h') output'
-step_at_stands plan steps number site inputs cores output output' h h' s low at here asked each standing is_core is_after text commits refusals few =
+step_at_stands law plan steps number site inputs cores output output' h h' s low at here asked each standing is_core is_after text commits refusals few =
     let is : get_or steps number s ≡ Batch site inputs = sym at ∙ step_is s site inputs here asked in
     let planned : IsPlannedBatch plan site inputs = subst (IsPlannedStep plan) is (each number s low) in
-    step_stands plan steps (take number steps) number site inputs cores output output' h h' s low refl is planned.here planned.one standing is_core is_after text commits refusals few
+    step_stands law plan steps (take number steps) number site inputs cores output output' h h' s low refl is planned.here planned.one standing is_core is_after text commits refusals few
 
 -- after all steps what is left to do is to close the report
 pub report_at_end : (plan : PlanData) (steps items : List Step) (number : ℕ) (cores : List Held) (output : Output) (report : Report)

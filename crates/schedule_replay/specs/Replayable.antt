@@ -1,9 +1,9 @@
+-- Which schedules a replay takes.
 use Rattle.std.specs.Prelude.{◌≡◌, ℕ, ◌<◌, ◌≤◌, List, length, All, IsTrue}
-use Rattle.helios_model.specs.declared.ids.Version.{Version}
-use Rattle.helios_model.specs.declared.ids.Version.TheVariants.{Initial, Of}
 use Rattle.helios_model.specs.declared.transactions.PutItem.{PutItem}
-use Rattle.helios_model.specs.Limits.{most_items, last_time}
-use Rattle.helios_model.specs.Texts.{all_differ}
+use Rattle.helios_model.specs.Limits.{most_items}
+use Rattle.helios_model.specs.Texts.{IsKey, all_differ}
+use Rattle.helios_model.specs.Spellable.{IsSpellableVersion, AreSpellablePuts}
 use Rattle.helios_model.specs.Plans.{PlanData, IsAccepted, count_of}
 use Rattle.schedule_replay.specs.declared.reads.PlannedVersion.{PlannedVersion}
 use Rattle.schedule_replay.specs.declared.reads.PlannedVersion.TheVariants.{At, Current}
@@ -17,23 +17,18 @@ use Rattle.schedule_replay.specs.declared.steps.Step.TheVariants.{Batch}
 abbrev pub most_steps : ℕ
 most_steps = 100000
 
--- a version that a text can name: an id has a time from 1 to the last
-abbrev pub IsVersionText : Version → Type 0
-IsVersionText Initial = Unit {0}
-IsVersionText (Of id) = (1 ≤ id.time) × (id.time ≤ last_time)
-
--- a read of a given version
+-- a read of a given version, which a text can name
 abbrev pub IsGiven : PlannedVersion → Type 0
-IsGiven (At version) = IsVersionText version
+IsGiven (At version) = IsSpellableVersion version
 IsGiven Current = ⊥
 
 -- a request within the limits of a transaction, each of whose reads gives its version
 pub record IsPlannedRequest (reads : List PlannedRead) (puts : List PutItem) : Type 0 where
   pub few_reads : length reads ≤ most_items
-  pub few_puts : length puts ≤ most_items
   pub reads_differ : IsTrue (all_differ (λ r. r.key) reads)
-  pub puts_differ : IsTrue (all_differ (λ p. p.key) puts)
+  pub read_keys : All (λ r. IsKey r.key) reads
   pub given : All (λ r. IsGiven r.version) reads
+  pub within : AreSpellablePuts puts
 
 abbrev pub IsPlannedInput : Planned → Type 0
 IsPlannedInput (Request at reads puts) = IsPlannedRequest reads puts

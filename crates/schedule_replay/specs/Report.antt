@@ -9,7 +9,7 @@ use Rattle.helios_model.specs.Node.{Node, clock, own_open}
 use Rattle.helios_model.specs.World.{World, Told, node_of, first_world, replies}
 use Rattle.schedule_replay.specs.declared.steps.Step.{Step}
 use Rattle.schedule_replay.specs.declared.steps.Step.TheVariants.{Batch}
-use Rattle.schedule_replay.specs.Planning.{entries_for, after_step, after_steps}
+use Rattle.schedule_replay.specs.Entries.{entries_for, after_step, after_steps}
 
 -- the line feed
 abbrev pub line_end : List ℕ

@@ -1,14 +1,15 @@
-use Rattle.std.specs.Prelude.{◌≡◌, ℕ, ◌<◌, ◌≤◌, List, length, slice_index_or}
+use Rattle.std.specs.Prelude.{◌≡◌, ℕ, ◌+◌, ◌<◌, ◌≤◌, ◌++◌, List, length, slice_index_or}
 use Rattle.std.specs.List.{flat_map}
+use Rattle.helios_model.specs.declared.entries.Entry.{Entry}
 use Rattle.helios_model.specs.Plans.{PlanData, count_of}
 use Rattle.helios_model.specs.Node.{empty_node}
 use Rattle.helios_model.specs.Step.{after_entries}
-use Rattle.helios_model.specs.World.{World, Told, first_world, node_of}
+use Rattle.helios_model.specs.World.{World, Told, first_world, node_of, replies}
 use Rattle.schedule_replay.specs.declared.inputs.Planned.{Planned}
 use Rattle.schedule_replay.specs.declared.steps.Step.{Step}
 use Rattle.schedule_replay.specs.declared.sites.Output.{Output}
 use Rattle.schedule_replay.specs.Held.{Held}
-use Rattle.schedule_replay.specs.Planning.{entries_for}
+use Rattle.schedule_replay.specs.Entries.{entries_for}
 use Rattle.schedule_replay.specs.Report.{reply_line, lines_from, reached, refusals_in}
 
 -- a line for each reply
@@ -25,6 +26,13 @@ held_of plan w site = record { plan = plan; node = node_of plan w site }
 -- a site's core before any step
 abbrev pub first_held : PlanData → ℕ → Held
 first_held plan site = record { plan = plan; node = empty_node plan site }
+
+-- a core took these entries from the one to the other, and a line was added for each reply
+pub record HasTold (number : ℕ) (before : Held) (text : List ℕ) (refusals : ℕ) (entries : List Entry) (after : Held) (text' : List ℕ) (refusals' : ℕ) : Type 0 where
+  pub core : after ≡ record { plan = before.plan; node = after_entries before.plan before.node entries }
+  pub lines : text' ≡ text ++ reply_lines number (replies before.plan before.node entries)
+  pub refused : refusals' ≡ refusals + refusals_in (replies before.plan before.node entries)
+  pub few : refusals' ≤ refusals + length entries
 
 -- cores and output stand for what these steps reach: each site's node, the lines, the history and the refusals
 pub record IsStandingAt (plan : PlanData) (steps : List Step) (cores : List Held) (output : Output) : Type 0 where

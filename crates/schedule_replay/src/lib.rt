@@ -2,12 +2,12 @@
 // The layer above uses `replay`: its report is that of the world which the steps reach by the rules of the node.
 #![tactic(auto)]
 
+mod entries;
 pub mod input_lists;
 pub mod inputs;
 mod lines;
 mod node;
 pub mod planned;
-mod planning;
 pub mod reads;
 pub mod replay;
 mod requests;
@@ -16,5 +16,3 @@ pub mod schedule;
 mod sites;
 pub mod step_lists;
 pub mod steps;
-#[cfg(test)]
-mod tests;

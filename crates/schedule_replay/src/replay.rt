@@ -2,11 +2,12 @@
 ghost use Rattle.std.specs.Prelude.{◌≡◌, ◌+◌, ◌<◌, ◌≤◌, ◌++◌, OnOk, IfOk, All, length, map, take};
 ghost use Rattle.std.specs.List.{flat_map, range_with_len};
 ghost use Rattle.helios_model.specs.Plans.{count_of};
-ghost use Rattle.schedule_replay.specs.Planning.{inputs_of, site_of};
+ghost use Rattle.schedule_replay.specs.Entries.{inputs_of, site_of};
 ghost use Rattle.schedule_replay.specs.Replay.{IsReport};
 ghost use Rattle.schedule_replay.specs.Replayable.{IsPlannedStep, IsReplayable, most_steps};
 ghost use Rattle.helios_model.specs.Laws.Safe.{IsSafe};
 ghost use Rattle.helios_model.specs.Serial.{IsSerial};
+ghost use Rattle.helios_model.specs.World.{StepsReach};
 ghost use Rattle.schedule_replay.specs.Report.{commit_line, reached, site_line};
 ghost use Rattle.schedule_replay.specs.Standing.{IsStandingAt, first_held};
 
@@ -16,7 +17,7 @@ use crate::node::Core;
 use crate::schedule::{Report, Schedule};
 use crate::sites::{Output, run_batch};
 use crate::steps::Step;
-use helios_model::laws::each_world_is_safe;
+use helios_model::laws::{batch_moves_one_node, each_world_is_safe};
 use helios_model::{Bytes, CommitEvent, Commits, Plan, SiteId};
 use std::alloc::{AllocError, Global};
 
@@ -63,6 +64,7 @@ fn take_step(
     requires standing { IsStandingAt plan.now (take number steps.now) cores.old.items output.old }
     ensures { OnOk result (IsStandingAt plan.now (take (number + 1) steps.now) cores.new.items output.new) }
 {
+    batch_moves_one_node();
     let step = &steps[number];
     let core = &mut cores[site_of(step).number() as usize];
     run_batch(alloc, core, output, number as u64, inputs_of(step))?;
@@ -114,14 +116,15 @@ fn finish(alloc: Global, cores: &[Core], output: Output) -> Result<Report, Alloc
 }
 
 /// Takes the cluster of a plan through the steps of a schedule, from the first world on.
-
 pub fn replay(alloc: Global, schedule: &Schedule) -> Result<Report, AllocError>
     requires { IsReplayable schedule.now.plan schedule.now.steps }
     ensures report { IfOk result (IsReport schedule.now.plan schedule.now.steps) }
+    ensures reached { IfOk result (λ _. StepsReach schedule.now.plan (reached schedule.now.plan schedule.now.steps)) }
     ensures safe { IfOk result (λ _. IsSafe schedule.now.plan (reached schedule.now.plan schedule.now.steps)) }
     ensures serial { IfOk result (λ report. IsSerial report.commits) }
 {
     each_world_is_safe();
+    batch_moves_one_node();
     let steps = schedule.steps.items();
     let mut cores = cores_of(alloc, &schedule.plan)?;
     let mut output = Output {

@@ -1,7 +1,6 @@
-// Look-ups in a whole log.
+//! Look-ups in a whole log.
 ghost use Rattle.std.specs.Prelude.{◌≡◌, IfOk, filter, length};
 ghost use Rattle.std.specs.Option.{option_map};
-ghost use Rattle.helios_model.specs.Transactions.{writes_key};
 ghost use Rattle.helios_model.specs.Ids.{same_id, same_version};
 ghost use Rattle.helios_model.specs.Log.{current, ends, event_at, finished, prepare_of, unfinished};
 ghost use Rattle.helios_model.specs.Node.{is_own};
@@ -9,7 +8,7 @@ ghost use Rattle.helios_model.specs.Request.{clash, stale_read};
 ghost use Rattle.schedule_replay.specs.Scan.{named_in, open_in, own_commit_in, own_event, own_open_in, transaction_in};
 
 use helios_model::{
-    CommitEvent, Key, Prepare, ReadItem, Record, SiteId, Time, TxnId, Version, conflicts,
+    Ask, CommitEvent, Key, Prepare, ReadItem, Record, SiteId, Time, TxnId, Version,
 };
 use std::alloc::AllocError;
 
@@ -75,12 +74,6 @@ fn committed<'a>(log: &'a [Record], r: &Record) -> Option<&'a Prepare>
     }
 }
 
-fn is_writing(p: &Prepare, key: &Key) -> bool
-    ensures { result ≡ writes_key p.now key.now }
-{
-    p.writes().items().iter().any(|w| w.key == *key)
-}
-
 #[tactic(auto, using(crate::proofs::Rests::current_drop))]
 pub(crate) fn current_version(log: &[Record], key: &Key) -> Version
     ensures { result ≡ current log.now key.now }
@@ -88,7 +81,7 @@ pub(crate) fn current_version(log: &[Record], key: &Key) -> Version
     let mut version = Version::Initial;
     for r in log {
         if let Some(p) = committed(log, r) {
-            if is_writing(p, key) {
+            if p.is_writing(key) {
                 version = Version::Of(p.id());
             }
         }
@@ -110,12 +103,12 @@ fn open_prepare<'a>(log: &[Record], r: &'a Record) -> Option<&'a Prepare>
 }
 
 #[tactic(auto, using(crate::proofs::Rests::clash_drop))]
-pub(crate) fn first_clash<'a>(log: &'a [Record], p: &Prepare) -> Option<&'a Prepare>
-    ensures { option_map (λ q. q.now) result ≡ clash log.now p.now }
+pub(crate) fn first_clash<'a>(log: &'a [Record], ask: &Ask) -> Option<&'a Prepare>
+    ensures { option_map (λ q. q.now) result ≡ clash log.now ask.now }
 {
     for r in log {
         if let Some(q) = open_prepare(log, r) {
-            if conflicts(p, q) {
+            if ask.conflicts_with(q) {
                 return Some(q);
             }
         }

@@ -1,18 +1,18 @@
-// The sites of a replay, and what it has told so far.
+//! The sites of a replay, and what it has told so far.
 ghost use Rattle.std.specs.Prelude.{◌≡◌, ◌+◌, ◌^◌, ◌<◌, ◌≤◌, ◌++◌, OnOk, All, length, if◌then◌else◌};
 ghost use Rattle.std.specs.Option.{option_to_list};
 ghost use Rattle.helios_model.specs.Step.{after_entries, after_entry, step};
 ghost use Rattle.helios_model.specs.World.{own_commits, replies};
-ghost use Rattle.schedule_replay.specs.Planning.{entries_for};
+ghost use Rattle.schedule_replay.specs.Entries.{entries_for};
 ghost use Rattle.schedule_replay.specs.Replayable.{IsPlannedInput};
 ghost use Rattle.schedule_replay.specs.Report.{is_refusal, refusals_in, reply_line};
 ghost use Rattle.schedule_replay.specs.Scan.{own_commit_in};
-ghost use Rattle.schedule_replay.specs.Standing.{core_after, reply_lines};
+ghost use Rattle.schedule_replay.specs.Standing.{HasTold, core_after, reply_lines};
 
+use crate::entries::entries_for;
 use crate::inputs::Planned;
 use crate::lines::{is_refusal, push_reply_line};
 use crate::node::Core;
-use crate::planning::entries_for;
 use crate::requests::answer;
 use crate::scan::own_commit;
 use helios_model::{CommitEvent, Entry, Record, SiteId};
@@ -33,12 +33,12 @@ fn tell(
     text: &mut Vec<u8>,
     refusals: &mut u64,
     number: u64,
-    entry: &Entry,
+    entry: Entry,
 ) -> Result<(), AllocError>
     requires { refusals.old + 1 < 2 ^ 64 }
-    ensures core { OnOk result (core.new ≡ record { plan = core.old.plan; node = after_entry core.old.plan core.old.node entry.now }) }
-    ensures text { OnOk result (text.new.items ≡ text.old.items ++ reply_line number core.old.node.site (step core.old.plan core.old.node entry.now).reply) }
-    ensures refusals { OnOk result (refusals.new ≡ refusals.old + (if is_refusal (step core.old.plan core.old.node entry.now).reply then 1 else 0)) }
+    ensures core { OnOk result (core.new ≡ record { plan = core.old.plan; node = after_entry core.old.plan core.old.node entry }) }
+    ensures text { OnOk result (text.new.items ≡ text.old.items ++ reply_line number core.old.node.site (step core.old.plan core.old.node entry).reply) }
+    ensures refusals { OnOk result (refusals.new ≡ refusals.old + (if is_refusal (step core.old.plan core.old.node entry).reply then 1 else 0)) }
 {
     let site = core.site();
     let reply = answer(alloc, core, entry)?;
@@ -50,20 +50,16 @@ fn tell(
 }
 
 /// Answers the inputs of a batch, one after the other, and tells the replies.
-#[tactic(auto, using(crate::proofs::Rests::after_drop, crate::proofs::Rests::lines_drop, crate::proofs::Rests::refusals_drop))]
 fn tell_all(
     alloc: Global,
     core: &mut Core,
     text: &mut Vec<u8>,
     refusals: &mut u64,
     number: u64,
-    entries: &[Entry],
+    entries: Vec<Entry>,
 ) -> Result<(), AllocError>
-    requires { refusals.old + length entries.now < 2 ^ 64 }
-    ensures core { OnOk result (core.new ≡ record { plan = core.old.plan; node = after_entries core.old.plan core.old.node entries.now }) }
-    ensures text { OnOk result (text.new.items ≡ text.old.items ++ reply_lines number (replies core.old.plan core.old.node entries.now)) }
-    ensures refusals { OnOk result (refusals.new ≡ refusals.old + refusals_in (replies core.old.plan core.old.node entries.now)) }
-    ensures few { OnOk result (refusals.new ≤ refusals.old + length entries.now) }
+    requires { refusals.old + length entries.items < 2 ^ 64 }
+    ensures { OnOk result (HasTold number core.old text.old.items refusals.old entries.items core.new text.new.items refusals.new) }
 {
     for entry in entries {
         tell(alloc, core, text, refusals, number, entry)?;
@@ -129,7 +125,7 @@ pub(crate) fn run_batch(
         &mut output.text,
         &mut output.refusals,
         number,
-        entries.as_slice(),
+        entries,
     )?;
     push_commits(&mut output.commits, core.log(), site, old)?;
     Ok(())

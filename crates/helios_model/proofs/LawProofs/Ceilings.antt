@@ -3,30 +3,30 @@ use Rattle.std.proofs.lemmas.List.{length-append}
 use Rattle.std.proofs.lemmas.List.Elements.{All-head, filter-append, filter_agree}
 use Rattle.std.proofs.lemmas.Bool.{cases_Bool, leb-false, both_ways, not_from_true}
 use Rattle.helios_model.specs.declared.ids.TxnId.{TxnId}
-use Rattle.helios_model.specs.declared.transactions.ReadItem.{ReadItem}
+use Rattle.helios_model.specs.declared.entries.Reply.{Reply}
 use Rattle.helios_model.specs.declared.entries.Entry.{Entry}
 use Rattle.helios_model.specs.declared.entries.Input.{Input}
 use Rattle.helios_model.specs.declared.entries.Input.TheVariants.{Request}
 use Rattle.helios_model.specs.declared.records.Record.TheVariants.{Prepare, Commit}
 use Rattle.helios_model.specs.Limits.{most_open, spent_time}
 use Rattle.helios_model.specs.Ids.{same_id}
-use Rattle.helios_model.specs.Transactions.{Transaction, Asking, conflict}
+use Rattle.helios_model.specs.Transactions.{Transaction, Asking}
 use Rattle.helios_model.specs.Plans.{PlanData, count_of}
 use Rattle.helios_model.specs.Log.{ends, finished, prepares, unfinished}
 use Rattle.helios_model.specs.Node.{Node, empty_node, clock, next_time, is_own, is_spent, own_open}
 use Rattle.helios_model.specs.Settle.{is_reached, commit_one, settle}
-use Rattle.helios_model.specs.Request.{entered, by_clash, by_stale, by_room, clash, stale_read, asked, next_id, is_full}
+use Rattle.helios_model.specs.Request.{entered, asked, next_id, refusal, unless_refused}
 use Rattle.helios_model.specs.Step.{by_clock, is_journaled, after_entry, after_entries}
 use Rattle.helios_model.specs.World.{World, first_world, node_of, journal_of, run}
 use Rattle.helios_model.specs.Laws.Order.{IsAsked}
 use Rattle.helios_model.specs.Laws.Ceiling.{StaysBelow, EachNodeStaysBelow}
-use Rattle.helios_model.proofs.LawProofs.Lists.{filter_twice, contains_cases, contains_filter, find_passes, find_none}
+use Rattle.helios_model.proofs.LawProofs.Lists.{filter_twice, contains_cases, contains_filter, find_passes}
 use Rattle.helios_model.proofs.LawProofs.Ids.{same_id_itself}
-use Rattle.helios_model.proofs.LawProofs.Push.{unfinished_end, unfinished_prepare, unfinished_has}
+use Rattle.helios_model.proofs.LawProofs.OneMore.{unfinished_end, unfinished_prepare, unfinished_has}
 use Rattle.helios_model.proofs.LawProofs.PoolSteps.{fresh_unended}
 use Rattle.helios_model.proofs.LawProofs.NodeSteps.{IsOpen, known_own, new_id}
 use Rattle.helios_model.proofs.LawProofs.Settling.{IsKept, IsReady, kept_first, ready_rest, ready_now}
-use Rattle.helios_model.proofs.LawProofs.Requests.{step_answered, kept_entered, follows_asked, next_own_above}
+use Rattle.helios_model.proofs.LawProofs.Requests.{IsFree, step_answered, kept_entered, free_asked, next_own_above, unrefused_free}
 use Rattle.helios_model.proofs.LawProofs.Starts.{kept_empty}
 use Rattle.helios_model.proofs.LawProofs.Unheard.{empty_unheard}
 
@@ -118,38 +118,25 @@ accept_below plan n id ask h b own taken =
     let low : id.time ≤ spent_time = b.low in
     record { few_open = omega arith; low_clock = omega arith }
 
-clash_below : (plan : PlanData) (n : Node) (id : TxnId) (ask : Asking) (o : Option Transaction) → IsKept plan n → IsBelow plan n id.time → id.site ≡ n.site
-    → stale_read n.log ask.reads ≡ None → clash n.log (asked n.log id ask) ≡ o → StaysBelow plan n → StaysBelow plan (by_clash plan n (asked n.log id ask) o).node
-clash_below plan n id ask (Some q) h b own fresh look low = low
-clash_below plan n id ask None h b own fresh none low =
-    accept_below plan n id ask h b own (record { follows = follows_asked n.log id ask fresh; alone = find_none (conflict (asked n.log id ask)) (unfinished n.log) none })
-
-stale_below : (plan : PlanData) (n : Node) (id : TxnId) (ask : Asking) (o : Option ReadItem) → IsKept plan n → IsBelow plan n id.time → id.site ≡ n.site
-    → stale_read n.log ask.reads ≡ o → StaysBelow plan n → StaysBelow plan (by_stale plan n (asked n.log id ask) o).node
-stale_below plan n id ask (Some r) h b own look low = low
-stale_below plan n id ask None h b own fresh low = clash_below plan n id ask (clash n.log (asked n.log id ask)) h b own fresh refl low
-
 next_low : (plan : PlanData) (n : Node) (reading : ℕ) → clock plan n < spent_time → next_time plan n reading ≤ spent_time
 next_low plan n reading below = omega arith
 
-room_below : (plan : PlanData) (n : Node) (reading : ℕ) (ask : Asking) (full : Bool) → IsKept plan n → clock plan n < spent_time → is_full n ≡ full
-    → StaysBelow plan n → StaysBelow plan (by_room plan n (asked n.log (next_id plan n reading) ask) full).node
-room_below plan n reading ask true h clocked look low = low
-room_below plan n reading ask false h clocked look low =
-    stale_below plan n (next_id plan n reading) ask (stale_read n.log ask.reads) h (record {
-      clocked = clocked;
-      room = leb-false most_open (length (own_open n)) look;
-      above = next_own_above plan n reading;
-      low = next_low plan n reading clocked;
-    }) refl refl low
+unless_below : (plan : PlanData) (n : Node) (reading : ℕ) (ask : Asking) (o : Option Reply) → IsKept plan n → clock plan n < spent_time → refusal n ask ≡ o
+    → StaysBelow plan n → StaysBelow plan (unless_refused plan n (asked n.log (next_id plan n reading) ask) o).node
+unless_below plan n reading ask (Some reply) h clocked look low = low
+unless_below plan n reading ask None h clocked none low =
+    let free : IsFree n ask = unrefused_free n ask none in
+    accept_below plan n (next_id plan n reading) ask h
+    (record { clocked = clocked; room = free.room; above = next_own_above plan n reading; low = next_low plan n reading clocked }) refl
+    (free_asked n (next_id plan n reading) ask free)
 
 clock_below : (plan : PlanData) (n : Node) (reading : ℕ) (input : Input) (spent : Bool) → IsKept plan n → (is_journaled input && is_spent plan n) ≡ spent
     → StaysBelow plan n → StaysBelow plan (by_clock plan n reading input spent).node
 clock_below plan n reading input true h look low = low
 clock_below plan n reading (Request ask) false h look low =
-    room_below plan n reading ask (is_full n) h (leb-false spent_time (clock plan n) look) refl low
+    unless_below plan n reading ask (refusal n ask) h (leb-false spent_time (clock plan n) look) refl low
 
-entries_below : (plan : PlanData) (n : Node) (entries : List Entry) → IsKept plan n → StaysBelow plan n → StaysBelow plan (after_entries plan n entries)
+pub entries_below : (plan : PlanData) (n : Node) (entries : List Entry) → IsKept plan n → StaysBelow plan n → StaysBelow plan (after_entries plan n entries)
 entries_below plan n [] h low = low
 entries_below plan n (e ∷ es) h low =
     entries_below plan (after_entry plan n e) es (step_answered plan n e h).gone.kept

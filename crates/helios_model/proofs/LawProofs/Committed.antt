@@ -14,15 +14,15 @@ use Rattle.helios_model.specs.Log.{ends, finished, prepares, prepare_of, event_a
 use Rattle.helios_model.specs.Laws.Pool.{IsBacked}
 use Rattle.helios_model.proofs.LawProofs.Lists.{any_from, find_passes, contains_from_filter_map}
 use Rattle.helios_model.proofs.LawProofs.Ids.{same_id_is, same_id_of}
-use Rattle.helios_model.proofs.LawProofs.Push.{prepare_of_grows}
+use Rattle.helios_model.proofs.LawProofs.OneMore.{prepare_of_grows}
 
 pub backed_grows : (log more : List Record) (r : Record) → IsBacked log r → IsBacked (log ++ more) r
 backed_grows log more (Prepare p) h = tt
 backed_grows log more (Commit id time) h = ap (λ o. is_some o) (prepare_of_grows log more id h) ∙ h
 backed_grows log more (Abort id time cause) h = ap (λ o. is_some o) (prepare_of_grows log more id h) ∙ h
 
-pub backed_push : (log : List Record) (r : Record) → All (IsBacked log) log → IsBacked log r → All (IsBacked (log ++ r ∷ [])) (log ++ r ∷ [])
-backed_push log r h new =
+pub backed_one_more : (log : List Record) (r : Record) → All (IsBacked log) log → IsBacked log r → All (IsBacked (log ++ r ∷ [])) (log ++ r ∷ [])
+backed_one_more log r h new =
     All-push (IsBacked (log ++ r ∷ [])) log r (All-weaker (IsBacked log) (IsBacked (log ++ r ∷ [])) (backed_grows log (r ∷ [])) log h)
     (backed_grows log (r ∷ []) r new)
 

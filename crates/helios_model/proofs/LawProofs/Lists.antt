@@ -1,4 +1,4 @@
-use Rattle.std.proofs.Common.{◌≡◌, ◌∙◌, ap, refl, sym, subst, suc, ◌<◌, Bool, true, false, not, ◌&&◌, ◌||◌, ◌⊎◌, inl, inr, Option, Some, None, is_some, List, [], ◌∷◌, ◌++◌, get_or, filter, filter_map, find, All, AllPairs, Contains, arith}
+use Rattle.std.proofs.Common.{◌≡◌, ◌∙◌, ap, refl, sym, subst, suc, ◌<◌, Bool, true, false, not, ◌&&◌, ◌||◌, ◌⊎◌, inl, inr, Option, Some, None, is_some, List, [], ◌∷◌, ◌++◌, get_or, map, filter, filter_map, find, All, AllPairs, Contains, arith}
 use Rattle.std.specs.List.{list_any, cons_option}
 use Rattle.std.proofs.lemmas.List.{get_or_default}
 use Rattle.std.proofs.lemmas.List.Elements.{All-nil, All-cons, All-head, All-tail, All-contains_itself, All-contains, Contains-append_cases, Contains-push_cases, Contains-append_right}
@@ -32,6 +32,18 @@ contains_cases {X = X} y xs x h = by_part (Contains-append_cases (y ∷ []) xs x
     by_part : Contains (y ∷ []) x ⊎ Contains xs x → (y ≡ x) ⊎ Contains xs x
     by_part (inl one) = by_end (Contains-push_cases [] y x one)
     by_part (inr more) = inr more
+
+pub contains_map : {X Y : Type 0} (f : X → Y) (xs : List X) (x : X) → Contains xs x → Contains (map f xs) (f x)
+contains_map f [] x h = absurd (contains_nothing x h)
+contains_map {X = X} f (y ∷ ys) x h = by_case (contains_cases y ys x h) (contains_map f ys x)
+  where
+    by_case : (y ≡ x) ⊎ Contains ys x → (Contains ys x → Contains (map f ys) (f x)) → Contains (map f (y ∷ ys)) (f x)
+    by_case (inl same) later = subst (λ z. Contains (f y ∷ map f ys) (f z)) same (contains_here (f y) (map f ys))
+    by_case (inr more) later = contains_later (f y) (map f ys) (f x) (later more)
+
+pub map_twice : {X Y Z : Type 0} (g : Y → Z) (f : X → Y) (xs : List X) → map g (map f xs) ≡ map (λ x. g (f x)) xs
+map_twice g f [] = refl
+map_twice g f (x ∷ xs) = ap (λ ys. g (f x) ∷ ys) (map_twice g f xs)
 
 -- what every element has, shown of each
 pub all_from : {X : Type 0} (P : X → Type 0) (xs : List X) → ((x : X) → Contains xs x → P x) → All P xs

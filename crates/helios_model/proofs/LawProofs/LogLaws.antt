@@ -1,8 +1,9 @@
 use Rattle.std.proofs.Common.{◌≡◌, ◌∙◌, ap, refl, sym, subst, ℕ, ◌+◌, ◌<◌, true, false, ◌⊎◌, inl, inr, Option, Some, None, is_some, List, [], ◌∷◌, ◌++◌, append_assoc, length, get_or, take, drop, All, AllPairs, Contains, arith}
 use Rattle.std.proofs.lemmas.List.{take-append-drop, drop_more, get_or-take, get_or_at, length-take-le, get_or_append_left, get_or_default, length-append}
-use Rattle.std.proofs.lemmas.List.Elements.{All-contains, Contains-append_cases}
+use Rattle.std.proofs.lemmas.List.Elements.{All-contains, All-drop, Contains-append_cases}
 use Rattle.std.proofs.lemmas.Bool.{both_ways, cases_Bool, false_from_ne_true, true_from_ne_false}
 use Rattle.helios_model.specs.declared.ids.TxnId.{TxnId}
+use Rattle.helios_model.specs.declared.entries.Entry.{Entry}
 use Rattle.helios_model.specs.declared.records.Record.{Record}
 use Rattle.helios_model.specs.declared.records.Record.TheVariants.{Prepare, Commit, Abort}
 use Rattle.helios_model.specs.Ids.{same_id}
@@ -13,15 +14,17 @@ use Rattle.helios_model.specs.Node.{Node, empty_node}
 use Rattle.helios_model.specs.World.{World, first_world, node_of, run}
 use Rattle.helios_model.specs.Laws.Shapes.{Rises}
 use Rattle.helios_model.specs.Laws.Order.{IsAsked, IsPending, IsClearBehind, IsLawful, OrderLaws}
-use Rattle.helios_model.specs.Laws.Nodes.{NodeLaws}
-use Rattle.helios_model.specs.Laws.Logs.{EachTimeRises, EachLogIsOwn, IdsAreGivenOnce, EachIdIsGivenOnce, EndsPending, EndingsFollow, EachEndingFollows, aborts, aborted, EndsFirst, EachConflictIsOrdered, EachEarlierEndsFirst, FollowsBefore, VersionsWereCurrent, EachVersionWasCurrent, EachCommitWaited}
+use Rattle.helios_model.specs.Laws.Nodes.{IsWaited, NodeLaws}
+use Rattle.helios_model.specs.Laws.Logs.{EachTimeRises, EachLogIsOwn, IdsAreGivenOnce, EachIdIsGivenOnce, EndsPending, EndingsFollow, EachEndingFollows, aborts, aborted, EndsFirst, EachConflictIsOrdered, EachEarlierEndsFirst, FollowsBefore, VersionsWereCurrent, EachVersionWasCurrent, NewCommitsWaited, EachCommitWaited}
 use Rattle.helios_model.proofs.LawProofs.Lists.{contains_cases, any_from, some_of, find_passes, pairs_cases}
 use Rattle.helios_model.proofs.LawProofs.Ids.{same_id_is, same_id_of}
-use Rattle.helios_model.proofs.LawProofs.Push.{prepare_stands, unfinished_has}
+use Rattle.helios_model.proofs.LawProofs.OneMore.{prepare_stands, unfinished_has}
 use Rattle.helios_model.proofs.LawProofs.Fits.{conflict_back}
 use Rattle.helios_model.proofs.LawProofs.OrderSteps.{cut_prepared}
-use Rattle.helios_model.proofs.LawProofs.Requests.{IsGone}
-use Rattle.helios_model.proofs.LawProofs.Starts.{node_gone}
+use Rattle.helios_model.specs.Step.{after_entry, after_entries}
+use Rattle.helios_model.proofs.LawProofs.Settling.{IsKept}
+use Rattle.helios_model.proofs.LawProofs.Requests.{IsGone, entries_go, step_answered}
+use Rattle.helios_model.proofs.LawProofs.Starts.{kept_empty, node_gone}
 
 pub node_laws : (plan : PlanData) (w : World) (k : ℕ) → k < count_of plan → NodeLaws plan (node_of plan w k)
 node_laws plan w k low = (node_gone plan w k low).kept.laws
@@ -29,8 +32,20 @@ node_laws plan w k low = (node_gone plan w k low).kept.laws
 pub each_time_rises : EachTimeRises
 each_time_rises plan events may k low = (node_laws plan (run plan (first_world plan) events) k low).times
 
+-- whatever a node was asked before, what an input adds waited by the table just after it
+new_commits_waited : (plan : PlanData) (k : ℕ) (before : List Entry) (e : Entry) → k < count_of plan
+    → NewCommitsWaited plan (after_entries plan (empty_node plan k) before) e
+new_commits_waited plan k before e low =
+    let n : Node = after_entries plan (empty_node plan k) before in
+    let kept : IsKept plan n = (entries_go plan (empty_node plan k) before (kept_empty plan k low)).kept in
+    let m : Node = after_entry plan n e in
+    All-drop (IsWaited plan m) (length n.log) m.log (step_answered plan n e kept).gone.kept.laws.waited
+
 pub each_commit_waited : EachCommitWaited
-each_commit_waited plan events may k low = (node_laws plan (run plan (first_world plan) events) k low).waited
+each_commit_waited plan events may k low = record {
+  at_commit = λ before e after cut. new_commits_waited plan k before e low;
+  still = (node_laws plan (run plan (first_world plan) events) k low).waited;
+}
 
 -- in every world whatever, a site's log is its own
 pub log_own : (plan : PlanData) (w : World) (k : ℕ) → k < count_of plan → All (λ r. origin r ≡ k) (node_of plan w k).log
@@ -127,7 +142,7 @@ ending_later site log before r after time rises cut timed prepared = by_find (pr
         let at_id : (id_of r).time < own_time r = subst (λ x. x.time < own_time r) named less in
         omega arith
 
-endings_follow : (plan : PlanData) (n : Node) → NodeLaws plan n → EndingsFollow plan n
+pub endings_follow : (plan : PlanData) (n : Node) → NodeLaws plan n → EndingsFollow plan n
 endings_follow plan n h = record {
   behind = λ before r after cut. by_record before r after cut (h.order.each before r after cut);
   once = pairs_from_cuts (λ a b. (id : TxnId) → ends id a ≡ true → ends id b ≡ false) n.log

@@ -18,7 +18,7 @@ use Rattle.helios_model.specs.Laws.Order.{IsNew, IsAsked}
 use Rattle.helios_model.specs.Laws.Nodes.{OwnTimesRise, IsWaited, NodeLaws}
 use Rattle.helios_model.proofs.LawProofs.Lists.{all_from}
 use Rattle.helios_model.proofs.LawProofs.Ids.{same_id_is}
-use Rattle.helios_model.proofs.LawProofs.Push.{prepare_stands}
+use Rattle.helios_model.proofs.LawProofs.OneMore.{prepare_stands}
 use Rattle.helios_model.proofs.LawProofs.Fits.{conflict_back}
 use Rattle.helios_model.proofs.LawProofs.PoolSteps.{pool_prepare, pool_commit}
 use Rattle.helios_model.proofs.LawProofs.OrderSteps.{order_prepare, order_commit}

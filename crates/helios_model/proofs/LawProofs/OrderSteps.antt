@@ -8,10 +8,10 @@ use Rattle.helios_model.specs.Log.{finished, prepare_in, prepares, unfinished}
 use Rattle.helios_model.specs.Laws.Shapes.{EachBehind}
 use Rattle.helios_model.specs.Laws.Order.{IsNew, IsAsked, IsPending, IsClearBehind, IsLawful, OrderLaws}
 use Rattle.helios_model.proofs.LawProofs.Lists.{split_last, contains_here}
-use Rattle.helios_model.proofs.LawProofs.Push.{prepares_append, prepares_end, prepares_prepare, unfinished_before, unfinished_has}
+use Rattle.helios_model.proofs.LawProofs.OneMore.{prepares_append, prepares_end, prepares_prepare, unfinished_before, unfinished_has}
 
-pub each_push : (F : List Record → Record → Type 0) (log : List Record) (c : Record) → EachBehind F log → F log c → EachBehind F (log ++ c ∷ [])
-each_push F log c h new before r after e = by_cut (split_last log c before r after e)
+pub each_one_more : (F : List Record → Record → Type 0) (log : List Record) (c : Record) → EachBehind F log → F log c → EachBehind F (log ++ c ∷ [])
+each_one_more F log c h new before r after e = by_cut (split_last log c before r after e)
   where
     by_cut : ((log ≡ before) × (c ≡ r) × (after ≡ [])) ⊎ ((rest : List Record) × (after ≡ rest ++ c ∷ []) × (log ≡ before ++ r ∷ rest)) → F before r
     by_cut (inl (here, same, nothing)) = subst₂ F here same new
@@ -46,7 +46,7 @@ clear_prepare log q p free h before after e = by_cut (split_last log (Prepare q)
 pub order_commit : (site : ℕ) (log : List Record) (id : TxnId) (time : ℕ) → OrderLaws site log → IsPending log id
     → OrderLaws site (log ++ Commit id time ∷ [])
 order_commit site log id time h pending = record {
-  each = each_push (IsLawful site) log (Commit id time) h.each
+  each = each_one_more (IsLawful site) log (Commit id time) h.each
       (pending, λ own p named. h.clear p (ap (λ x. x.site) named ∙ own) (ap (finished log) named ∙ pending.unended));
   clear = λ p own unended. clear_end log (Commit id time) p refl (h.clear p own (unfinished_before log (Commit id time ∷ []) p.id unended));
 }
@@ -54,7 +54,7 @@ order_commit site log id time h pending = record {
 pub order_prepare : (site : ℕ) (log : List Record) (q : Transaction) → OrderLaws site log → IsNew log q.id → (q.id.site ≡ site → IsAsked log q)
     → All (λ p. p.id.site ≡ site → conflict p q ≡ false) (unfinished log) → OrderLaws site (log ++ Prepare q ∷ [])
 order_prepare site log q h new asked clear = record {
-  each = each_push (IsLawful site) log (Prepare q) h.each (new, asked);
+  each = each_one_more (IsLawful site) log (Prepare q) h.each (new, asked);
   clear = λ p own unended.
       let before : finished log p.id ≡ false = unfinished_before log (Prepare q ∷ []) p.id unended in
       clear_prepare log q p

@@ -1,7 +1,7 @@
 use Rattle.std.proofs.Common.{◌≡◌, ◌∙◌, refl, ℕ, ◌+◌, ◌*◌, Bool, true, false, ◌&&◌, Option, Some, None, List, [], ◌∷◌, fold, flat_map, length}
 use Rattle.std.proofs.lemmas.List.{length-set, length-replicate}
 use Rattle.helios_model.specs.declared.ids.TxnId.{TxnId}
-use Rattle.helios_model.specs.declared.transactions.ReadItem.{ReadItem}
+use Rattle.helios_model.specs.declared.entries.Reply.{Reply}
 use Rattle.helios_model.specs.declared.entries.Entry.{Entry}
 use Rattle.helios_model.specs.declared.entries.Input.{Input}
 use Rattle.helios_model.specs.declared.entries.Input.TheVariants.{Request}
@@ -10,13 +10,14 @@ use Rattle.helios_model.specs.Plans.{PlanData, count_of}
 use Rattle.helios_model.specs.Transactions.{Transaction}
 use Rattle.helios_model.specs.Node.{Node, empty_node, clock, with_clock, with_record, is_spent}
 use Rattle.helios_model.specs.Settle.{commit_one, ready}
-use Rattle.helios_model.specs.Request.{entered, by_clash, by_stale, by_room, clash, stale_read, asked, next_id, is_full}
+use Rattle.helios_model.specs.Request.{entered, asked, next_id, refusal, unless_refused}
 use Rattle.helios_model.specs.Step.{by_clock, is_journaled, after_entry, after_entries}
 use Rattle.helios_model.specs.World.{World, Event, first_world, node_of, journal_of, run, happens}
 use Rattle.helios_model.specs.World.Event.{Batch}
 use Rattle.helios_model.specs.World.Ending.{Done}
+use Rattle.helios_model.specs.Laws.Moves.{BatchMovesOneNode}
 use Rattle.helios_model.specs.Laws.Placed.{IsPlaced, EachNodeIsPlaced}
-use Rattle.helios_model.proofs.LawProofs.Worlds.{first_journals, journals_stay}
+use Rattle.helios_model.proofs.LawProofs.Worlds.{first_journals, first_node, journals_stay, node_here, node_elsewhere}
 
 pub placed_clock : (plan : PlanData) (site : ℕ) (n : Node) (time : ℕ) → IsPlaced plan site n → IsPlaced plan site (with_clock plan n time)
 placed_clock plan site n time h = record {
@@ -33,25 +34,15 @@ placed_commits plan site n (id ∷ ids) h =
 pub placed_entered : (plan : PlanData) (site : ℕ) (n : Node) (p : Transaction) → IsPlaced plan site n → IsPlaced plan site (entered plan n p)
 placed_entered plan site n p h = placed_clock plan site (with_record n (Prepare p)) p.id.time (record { at_site = h.at_site; sized = h.sized })
 
-placed_by_clash : (plan : PlanData) (site : ℕ) (n : Node) (p : Transaction) (o : Option Transaction) → IsPlaced plan site n
-    → IsPlaced plan site (by_clash plan n p o).node
-placed_by_clash plan site n p (Some q) h = h
-placed_by_clash plan site n p None h = placed_commits plan site (entered plan n p) (ready plan (entered plan n p)) (placed_entered plan site n p h)
-
-placed_by_stale : (plan : PlanData) (site : ℕ) (n : Node) (p : Transaction) (o : Option ReadItem) → IsPlaced plan site n
-    → IsPlaced plan site (by_stale plan n p o).node
-placed_by_stale plan site n p (Some r) h = h
-placed_by_stale plan site n p None h = placed_by_clash plan site n p (clash n.log p) h
-
-placed_by_room : (plan : PlanData) (site : ℕ) (n : Node) (p : Transaction) (full : Bool) → IsPlaced plan site n
-    → IsPlaced plan site (by_room plan n p full).node
-placed_by_room plan site n p true h = h
-placed_by_room plan site n p false h = placed_by_stale plan site n p (stale_read n.log p.reads) h
+placed_unless : (plan : PlanData) (site : ℕ) (n : Node) (p : Transaction) (o : Option Reply) → IsPlaced plan site n
+    → IsPlaced plan site (unless_refused plan n p o).node
+placed_unless plan site n p (Some reply) h = h
+placed_unless plan site n p None h = placed_commits plan site (entered plan n p) (ready plan (entered plan n p)) (placed_entered plan site n p h)
 
 placed_by_clock : (plan : PlanData) (site : ℕ) (n : Node) (reading : ℕ) (input : Input) (spent : Bool) → IsPlaced plan site n
     → IsPlaced plan site (by_clock plan n reading input spent).node
 placed_by_clock plan site n reading input true h = h
-placed_by_clock plan site n reading (Request ask) false h = placed_by_room plan site n (asked n.log (next_id plan n reading) ask) (is_full n) h
+placed_by_clock plan site n reading (Request ask) false h = placed_unless plan site n (asked n.log (next_id plan n reading) ask) (refusal n ask) h
 
 pub placed_entries : (plan : PlanData) (site : ℕ) (n : Node) (entries : List Entry) → IsPlaced plan site n → IsPlaced plan site (after_entries plan n entries)
 placed_entries plan site n [] h = h
@@ -73,4 +64,14 @@ pub each_node_is_placed : EachNodeIsPlaced
 each_node_is_placed plan events may = record {
   journals = run_journals plan (first_world plan) events ∙ first_journals plan;
   nodes = λ k. node_placed plan (run plan (first_world plan) events) k;
+}
+
+pub batch_moves_one_node : BatchMovesOneNode
+batch_moves_one_node = record {
+  first_journals = first_journals;
+  first_node = first_node;
+  site_stays = λ plan w k. (node_placed plan w k).at_site;
+  journals_stay = journals_stay;
+  node_here = node_here;
+  node_elsewhere = node_elsewhere;
 }

@@ -14,8 +14,8 @@ use Rattle.helios_model.specs.Laws.Pool.{IsBacked, IsApart, PoolLaws}
 use Rattle.helios_model.specs.Laws.Order.{IsNew, IsAsked}
 use Rattle.helios_model.proofs.LawProofs.Lists.{find_passes, all_from, contains_from_filter}
 use Rattle.helios_model.proofs.LawProofs.Ids.{same_id_is, same_id_itself}
-use Rattle.helios_model.proofs.LawProofs.Push.{prepares_end, prepares_prepare, unfinished_end, unfinished_prepare, unfinished_has}
-use Rattle.helios_model.proofs.LawProofs.Committed.{backed_push, current_prepare, current_commit}
+use Rattle.helios_model.proofs.LawProofs.OneMore.{prepares_end, prepares_prepare, unfinished_end, unfinished_prepare, unfinished_has}
+use Rattle.helios_model.proofs.LawProofs.Committed.{backed_one_more, current_prepare, current_commit}
 use Rattle.helios_model.proofs.LawProofs.Fits.{follows_after, follows_same}
 
 -- a Commit or an Abort is backed by a Prepare of its id
@@ -43,7 +43,7 @@ pub pool_prepare : (site : ℕ) (log : List Record) (p : Transaction) → PoolLa
     → PoolLaws site (log ++ Prepare p ∷ [])
 pool_prepare site log p h new clear asked = record {
   ids = rw (prepares_prepare log p) (all_pairs_push (λ a b. same_id a.id b.id ≡ false) (prepares log) p h.ids new);
-  backed = backed_push log (Prepare p) h.backed tt;
+  backed = backed_one_more log (Prepare p) h.backed tt;
   apart = All-same (λ q. q.id.site ≡ site → IsApart (log ++ Prepare p ∷ []) q) (unfinished (log ++ Prepare p ∷ [])) (unfinished log ++ p ∷ []) pool_is (All-push (λ q. q.id.site ≡ site → IsApart (log ++ Prepare p ∷ []) q) (unfinished log) p
       (all_from (λ q. q.id.site ≡ site → IsApart (log ++ Prepare p ∷ []) q) (unfinished log) old_apart) new_apart);
   fits = All-same (λ q. q.id.site ≡ site → Follows (current (log ++ Prepare p ∷ [])) q) (unfinished (log ++ Prepare p ∷ [])) (unfinished log ++ p ∷ []) pool_is (All-push (λ q. q.id.site ≡ site → Follows (current (log ++ Prepare p ∷ [])) q) (unfinished log) p
@@ -72,7 +72,7 @@ pub pool_commit : (site : ℕ) (log : List Record) (id : TxnId) (time : ℕ) (p 
     → finished log id ≡ false → PoolLaws site (log ++ Commit id time ∷ [])
 pool_commit site log id time p h found unended = record {
   ids = rw (prepares_end log (Commit id time) refl) h.ids;
-  backed = backed_push log (Commit id time) h.backed (ap (λ o. is_some o) found);
+  backed = backed_one_more log (Commit id time) h.backed (ap (λ o. is_some o) found);
   apart = All-same (λ q. q.id.site ≡ site → IsApart (log ++ Commit id time ∷ []) q) (unfinished (log ++ Commit id time ∷ [])) (filter (λ q. not (ends q.id (Commit id time))) (unfinished log)) pool_is (All-filter (λ q. not (ends q.id (Commit id time))) (λ q. q.id.site ≡ site → IsApart (log ++ Commit id time ∷ []) q) (unfinished log)
       (All-weaker (λ q. q.id.site ≡ site → IsApart log q) (λ q. q.id.site ≡ site → IsApart (log ++ Commit id time ∷ []) q) still_apart (unfinished log) h.apart));
   fits = All-same (λ q. q.id.site ≡ site → Follows (current (log ++ Commit id time ∷ [])) q) (unfinished (log ++ Commit id time ∷ [])) (filter (λ q. not (ends q.id (Commit id time))) (unfinished log)) pool_is (all_from (λ q. q.id.site ≡ site → Follows (current (log ++ Commit id time ∷ [])) q)

@@ -16,9 +16,10 @@ use Rattle.helios_model.specs.Node.{Node}
 use Rattle.helios_model.specs.Step.{step, after_entry, after_entries}
 use Rattle.helios_model.specs.World.{Told, replies}
 use Rattle.helios_model.specs.Laws.Pool.{IsBacked}
+use Rattle.helios_model.specs.Laws.Histories.{IsTaken}
 use Rattle.helios_model.proofs.LawProofs.Committed.{commits_grown}
 use Rattle.helios_model.proofs.LawProofs.Settling.{IsKept}
-use Rattle.helios_model.proofs.LawProofs.Requests.{IsGone, IsTakenIn, IsCommittedIn, Says, SaysTo, IsStepped, step_answered, entries_go}
+use Rattle.helios_model.proofs.LawProofs.Requests.{IsGone, IsCommittedIn, Says, SaysTo, IsStepped, step_answered, entries_go}
 
 -- a reply that was told of a site with this log: what it says of the records just before its input
 pub record IsToldIn (log : List Record) (t : Told) : Type 0 where
@@ -29,7 +30,7 @@ pub record IsToldIn (log : List Record) (t : Told) : Type 0 where
   pub backed : All (IsBacked before) before
   pub says : SaysTo t.site before log t.input t.reply
 
-taken_grown : (site : ℕ) (before log more : List Record) (ask : Asking) (id : TxnId) → IsTakenIn site before log ask id → IsTakenIn site before (log ++ more) ask id
+taken_grown : (site : ℕ) (before log more : List Record) (ask : Asking) (id : TxnId) → IsTaken site before log ask id → IsTaken site before (log ++ more) ask id
 taken_grown site before log more ask id h = record { own = h.own; stands = Contains-append_left log more (Prepare (asked before id ask)) h.stands }
 
 committed_grown : (site : ℕ) (before log more : List Record) (ask : Asking) (id : TxnId) → All (IsBacked log) log → IsCommittedIn site before log ask id

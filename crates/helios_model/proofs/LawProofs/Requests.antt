@@ -1,9 +1,10 @@
-use Rattle.std.proofs.Common.{◌≡◌, ◌≢◌, ◌∙◌, ap, refl, sym, subst, ℕ, ◌<◌, Bool, true, false, not, ◌&&◌, ◌⊎◌, inl, inr, Option, Some, None, is_some, option_map, List, [], ◌∷◌, ◌++◌, append_assoc, All, AllPairs, Contains, arith}
+use Rattle.std.proofs.Common.{◌≡◌, ◌≢◌, ◌∙◌, ap, refl, sym, subst, ℕ, ◌<◌, Bool, true, false, not, ◌&&◌, ◌⊎◌, inl, inr, Option, Some, None, is_some, option_map, nat_le, if◌then◌else◌, length, List, [], ◌∷◌, ◌++◌, append_assoc, All, AllPairs, Contains, arith}
+use Rattle.std.specs.Option.{option_or}
 use Rattle.std.proofs.lemmas.List.{append-nil}
 use Rattle.std.proofs.lemmas.List.Elements.{All-nil, All-cons, All-append, All-map, All-weaker, All-contains, Contains-append_right}
 use Rattle.std.proofs.lemmas.List.Folds.{list_any-append}
 use Rattle.std.proofs.lemmas.Option.{same_Some}
-use Rattle.std.proofs.lemmas.Bool.{both_ways, not-true, not-false, cond_both, or_cases}
+use Rattle.std.proofs.lemmas.Bool.{both_ways, not-true, not-false, cond_both, or_cases, leb-false}
 use Rattle.helios_model.specs.declared.ids.TxnId.{TxnId}
 use Rattle.helios_model.specs.declared.ids.Version.{Version}
 use Rattle.helios_model.specs.declared.transactions.ReadItem.{ReadItem}
@@ -15,23 +16,26 @@ use Rattle.helios_model.specs.declared.entries.Reply.TheVariants.{Prepared, Comm
 use Rattle.helios_model.specs.declared.records.Record.{Record}
 use Rattle.helios_model.specs.declared.records.Record.TheVariants.{Prepare, Commit, Abort}
 use Rattle.helios_model.specs.declared.records.CommitEvent.{CommitEvent}
+use Rattle.helios_model.specs.Limits.{most_open}
 use Rattle.helios_model.specs.Ids.{same_id, same_version}
-use Rattle.helios_model.specs.Transactions.{Transaction, Asking, conflict}
+use Rattle.helios_model.specs.Transactions.{Transaction, Asking, keys_conflict, touched_by, touched_by_ask, conflict}
 use Rattle.helios_model.specs.Plans.{PlanData}
 use Rattle.helios_model.specs.Log.{origin, ends, finished, prepares, prepare_of, unfinished, event_at, commit_in, commits, current}
-use Rattle.helios_model.specs.Node.{Node, clock, next_time, is_spent}
+use Rattle.helios_model.specs.Node.{Node, clock, next_time, is_spent, own_open}
 use Rattle.helios_model.specs.Settle.{settle}
-use Rattle.helios_model.specs.Request.{Stepped, is_full, stale_read, write_at, asked, next_id, clash, entered, accept, by_clash, by_stale, by_room}
+use Rattle.helios_model.specs.Request.{Stepped, room_refusal, stale_read, stale_refusal, write_at, asked, next_id, clash, clash_refusal, refusal, entered, accept, unless_refused, request}
 use Rattle.helios_model.specs.Step.{step, by_clock, is_journaled, after_entry, after_entries}
 use Rattle.helios_model.specs.Serial.{Follows, IsSerial}
 use Rattle.helios_model.specs.NamedAbort.{IsConflict}
+use Rattle.helios_model.specs.Laws.Histories.{IsTaken}
 use Rattle.helios_model.specs.Laws.Pool.{IsBacked}
 use Rattle.helios_model.specs.Laws.Order.{IsAsked}
 use Rattle.helios_model.proofs.LawProofs.Placed.{placed_entered}
 use Rattle.helios_model.proofs.LawProofs.Lists.{or_false, some_of, find_passes, find_none, contains_filter_map}
 use Rattle.helios_model.proofs.LawProofs.Ids.{same_id_is, same_version_is, same_version_of}
-use Rattle.helios_model.proofs.LawProofs.Push.{finished_push, unfinished_is, prepare_stands}
+use Rattle.helios_model.proofs.LawProofs.OneMore.{finished_one_more, unfinished_is, prepare_stands}
 use Rattle.helios_model.proofs.LawProofs.Committed.{IsEventOf, event_of, commits_prepare}
+use Rattle.helios_model.proofs.LawProofs.Fits.{asked_touches}
 use Rattle.helios_model.proofs.LawProofs.PoolSteps.{fresh_unended}
 use Rattle.helios_model.proofs.LawProofs.OrderSteps.{cut_prepared}
 use Rattle.helios_model.proofs.LawProofs.NodeSteps.{new_id, laws_entered}
@@ -64,14 +68,9 @@ pub record IsCommitIn (records : List Record) (id : TxnId) : Type 0 where
   pub stands : Contains (commits records) event
   pub named : event.prepare.id ≡ id
 
--- what a request asked for over the records before it is in the log after it, under an id of the site
-pub record IsTakenIn (site : ℕ) (before log : List Record) (ask : Asking) (id : TxnId) : Type 0 where
-  pub own : id.site ≡ site
-  pub stands : Contains log (Prepare (asked before id ask))
-
--- the same, and it is that of a commit event of the log
+-- what a request asked for over the records before it is that of a commit event of the log after it
 pub record IsCommittedIn (site : ℕ) (before log : List Record) (ask : Asking) (id : TxnId) : Type 0 where
-  pub taken : IsTakenIn site before log ask id
+  pub taken : IsTaken site before log ask id
   pub event : CommitEvent
   pub stands : Contains (commits log) event
   pub asked_for : event.prepare ≡ asked before id ask
@@ -86,7 +85,7 @@ pub record IsStale (records : List Record) (ask : Asking) (key : List ℕ) (vers
 
 -- what a reply says of the records before and after its input
 abbrev pub Says : ℕ → List Record → List Record → Asking → Reply → Type 0
-Says site before after ask (Prepared id) = IsTakenIn site before after ask id
+Says site before after ask (Prepared id) = IsTaken site before after ask id
 Says site before after ask (Committed id) = IsCommittedIn site before after ask id
 Says site before after ask (Overwritten key version) = IsStale before ask key version
 Says site before after ask (Conflict id) = IsConflict before ask id
@@ -160,7 +159,7 @@ event_is log p ids there c =
 module _ (plan : PlanData) (n : Node) (id : TxnId) (ask : Asking) (h : IsKept plan n) (own : id.site ≡ n.site) (above : clock plan n < id.time)
     (taken : IsAsked n.log (asked n.log id ask)) where
   unended : finished (n.log ++ Prepare (asked n.log id ask) ∷ []) id ≡ false
-  unended = finished_push n.log (Prepare (asked n.log id ask)) id ∙ or_false (finished n.log id)
+  unended = finished_one_more n.log (Prepare (asked n.log id ask)) id ∙ or_false (finished n.log id)
       ∙ fresh_unended n.log id h.laws.pool.backed (new_id plan n id h.laws.times own above)
 
   -- the node after Settle
@@ -176,7 +175,7 @@ module _ (plan : PlanData) (n : Node) (id : TxnId) (ask : Asking) (h : IsKept pl
       let whole : after.log ≡ n.log ++ Prepare (asked n.log id ask) ∷ s.more = s.grown ∙ append_assoc n.log (Prepare (asked n.log id ask) ∷ []) s.more in
       cut_prepared after.log n.log (asked n.log id ask) s.more whole
 
-  taken_in : IsTakenIn n.site n.log after.log ask id
+  taken_in : IsTaken n.site n.log after.log ask id
   taken_in = record { own = own; stands = prepare_stands after.log (asked n.log id ask) prepared_after }
 
   committed_in : finished after.log id ≡ true → IsCommittedIn n.site n.log after.log ask id
@@ -215,44 +214,87 @@ follows_asked log id ask none = record {
 pub next_own_above : (plan : PlanData) (n : Node) (reading : ℕ) → clock plan n < next_time plan n reading
 next_own_above plan n reading = omega arith
 
-clash_answered : (plan : PlanData) (n : Node) (reading : ℕ) (ask : Asking) (o : Option Transaction) → IsKept plan n
-    → stale_read n.log ask.reads ≡ None → clash n.log (asked n.log (next_id plan n reading) ask) ≡ o
-    → IsAnswered plan n ask (by_clash plan n (asked n.log (next_id plan n reading) ask) o)
-clash_answered plan n reading ask None h fresh none =
-    accept_answered plan n (next_id plan n reading) ask h refl (next_own_above plan n reading) (record {
-      follows = follows_asked n.log (next_id plan n reading) ask fresh;
-      alone = find_none (conflict (asked n.log (next_id plan n reading) ask)) (unfinished n.log) none;
+-- what each refusal says of the records
+stale_says : (site : ℕ) (log after : List Record) (ask : Asking) (o : Option ReadItem) (reply : Reply) → stale_read log ask.reads ≡ o
+    → option_map (λ r. Overwritten r.key (current log r.key)) o ≡ Some reply → Says site log after ask reply
+stale_says site log after ask None reply look gives = absurd (cc)
+stale_says site log after ask (Some r) reply look gives =
+    let passes = find_passes (λ x. not (same_version x.version (current log x.key))) ask.reads r look in
+    let differs : same_version r.version (current log r.key) ≡ false = not-true (same_version r.version (current log r.key)) passes.1 in
+    let said : Overwritten r.key (current log r.key) ≡ reply = same_Some (Overwritten r.key (current log r.key)) reply gives in
+    subst (Says site log after ask) said (record {
+      read = r;
+      asked = passes.0;
+      at_key = refl;
+      other = λ same. both_ways (same_version r.version (current log r.key)) differs (same_version_of r.version (current log r.key) same);
+      is_current = refl;
     })
-clash_answered plan n reading ask (Some q) h fresh look =
-    let passes = find_passes (conflict (asked n.log (next_id plan n reading) ask)) (unfinished n.log) q look in
-    let parts = unfinished_is n.log q passes.0 in
-    record {
-      gone = goes_nowhere plan n h;
-      says = record { other = q; named = refl; logged = prepare_stands n.log q parts.0; open_then = parts.1; conflicts = passes.1 };
-    }
 
-stale_answered : (plan : PlanData) (n : Node) (reading : ℕ) (ask : Asking) (o : Option ReadItem) → IsKept plan n → stale_read n.log ask.reads ≡ o
-    → IsAnswered plan n ask (by_stale plan n (asked n.log (next_id plan n reading) ask) o)
-stale_answered plan n reading ask None h fresh =
-    clash_answered plan n reading ask (clash n.log (asked n.log (next_id plan n reading) ask)) h fresh refl
-stale_answered plan n reading ask (Some r) h look =
-    let passes = find_passes (λ x. not (same_version x.version (current n.log x.key))) ask.reads r look in
-    let differs : same_version r.version (current n.log r.key) ≡ false = not-true (same_version r.version (current n.log r.key)) passes.1 in
-    record {
-      gone = goes_nowhere plan n h;
-      says = record {
-        read = r;
-        asked = passes.0;
-        at_key = refl;
-        other = λ same. both_ways (same_version r.version (current n.log r.key)) differs (same_version_of r.version (current n.log r.key) same);
-        is_current = refl;
-      };
-    }
+clash_says : (site : ℕ) (log after : List Record) (ask : Asking) (o : Option Transaction) (reply : Reply) → clash log ask ≡ o
+    → option_map (λ q. Conflict q.id) o ≡ Some reply → Says site log after ask reply
+clash_says site log after ask None reply look gives = absurd (cc)
+clash_says site log after ask (Some q) reply look gives =
+    let passes = find_passes (λ x. keys_conflict (touched_by_ask ask) (touched_by x)) (unfinished log) q look in
+    let parts = unfinished_is log q passes.0 in
+    let said : Conflict q.id ≡ reply = same_Some (Conflict q.id) reply gives in
+    subst (Says site log after ask) said
+    (record { other = q; named = refl; logged = prepare_stands log q parts.0; open_then = parts.1; conflicts = passes.1 })
 
-room_answered : (plan : PlanData) (n : Node) (reading : ℕ) (ask : Asking) (full : Bool) → IsKept plan n
-    → IsAnswered plan n ask (by_room plan n (asked n.log (next_id plan n reading) ask) full)
-room_answered plan n reading ask true h = record { gone = goes_nowhere plan n h; says = tt }
-room_answered plan n reading ask false h = stale_answered plan n reading ask (stale_read n.log ask.reads) h refl
+refusal_says : (site : ℕ) (n : Node) (after : List Record) (ask : Asking) (reply : Reply) → refusal n ask ≡ Some reply → Says site n.log after ask reply
+refusal_says site n after ask reply gives = by_room (nat_le most_open (length (own_open n))) gives
+  where
+    by_stale : (o : Option Reply) → stale_refusal n.log ask ≡ o → option_or o (clash_refusal n.log ask) ≡ Some reply → Says site n.log after ask reply
+    by_stale None look later = clash_says site n.log after ask (clash n.log ask) reply refl later
+    by_stale (Some said) look first = stale_says site n.log after ask (stale_read n.log ask.reads) reply refl (look ∙ first)
+
+    by_room : (full : Bool) → option_or (if full then Some PoolFull else None) (option_or (stale_refusal n.log ask) (clash_refusal n.log ask)) ≡ Some reply
+        → Says site n.log after ask reply
+    by_room true first = subst (Says site n.log after ask) (same_Some PoolFull reply first) tt
+    by_room false later = by_stale (stale_refusal n.log ask) refl later
+
+-- where a request is not refused, there is room, each read is of the current version, and no unfinished transaction conflicts
+pub record IsFree (n : Node) (ask : Asking) : Type 0 where
+  pub room : length (own_open n) < most_open
+  pub fresh : stale_read n.log ask.reads ≡ None
+  pub alone : clash n.log ask ≡ None
+
+none_mapped : {X Y : Type 0} (f : X → Y) (o : Option X) → option_map f o ≡ None → o ≡ None
+none_mapped f None e = refl
+none_mapped f (Some x) e = absurd (cc)
+
+none_first : {X : Type 0} (o other : Option X) → option_or o other ≡ None → (o ≡ None) × (other ≡ None)
+none_first None other e = (refl, e)
+none_first (Some x) other e = absurd (cc)
+
+pub unrefused_free : (n : Node) (ask : Asking) → refusal n ask ≡ None → IsFree n ask
+unrefused_free n ask none =
+    let parts = none_first (room_refusal n) (option_or (stale_refusal n.log ask) (clash_refusal n.log ask)) none in
+    let later = none_first (stale_refusal n.log ask) (clash_refusal n.log ask) parts.1 in
+    record {
+      room = by_test (nat_le most_open (length (own_open n))) refl parts.0;
+      fresh = none_mapped (λ r. Overwritten r.key (current n.log r.key)) (stale_read n.log ask.reads) later.0;
+      alone = none_mapped (λ q. Conflict q.id) (clash n.log ask) later.1;
+    }
+  where
+    by_test : (full : Bool) → nat_le most_open (length (own_open n)) ≡ full → (if full then Some PoolFull else None) ≡ None → length (own_open n) < most_open
+    by_test true look e = absurd (cc)
+    by_test false look e = leb-false most_open (length (own_open n)) look
+
+-- such a request follows the current versions, and no unfinished transaction conflicts with what it becomes
+pub free_asked : (n : Node) (id : TxnId) (ask : Asking) → IsFree n ask → IsAsked n.log (asked n.log id ask)
+free_asked n id ask h = record {
+  follows = follows_asked n.log id ask h.fresh;
+  alone = All-weaker (λ q. keys_conflict (touched_by_ask ask) (touched_by q) ≡ false) (λ q. conflict (asked n.log id ask) q ≡ false)
+      (λ q apart. ap (λ keys. keys_conflict keys (touched_by q)) (asked_touches n.log id ask) ∙ apart)
+      (unfinished n.log) (find_none (λ q. keys_conflict (touched_by_ask ask) (touched_by q)) (unfinished n.log) h.alone);
+}
+
+pub request_answered : (plan : PlanData) (n : Node) (reading : ℕ) (ask : Asking) (o : Option Reply) → IsKept plan n → refusal n ask ≡ o
+    → IsAnswered plan n ask (unless_refused plan n (asked n.log (next_id plan n reading) ask) o)
+request_answered plan n reading ask (Some reply) h look =
+    record { gone = goes_nowhere plan n h; says = refusal_says n.site n n.log ask reply look }
+request_answered plan n reading ask None h none =
+    accept_answered plan n (next_id plan n reading) ask h refl (next_own_above plan n reading) (free_asked n (next_id plan n reading) ask (unrefused_free n ask none))
 
 -- the node after an input, and what the answer to it says
 pub record IsStepped (plan : PlanData) (n : Node) (input : Input) (s : Stepped) : Type 0 where
@@ -263,7 +305,7 @@ clock_answered : (plan : PlanData) (n : Node) (reading : ℕ) (input : Input) (s
     → IsStepped plan n input (by_clock plan n reading input spent)
 clock_answered plan n reading (Request ask) true h = record { gone = goes_nowhere plan n h; says = tt }
 clock_answered plan n reading (Request ask) false h =
-    let a : IsAnswered plan n ask (by_room plan n (asked n.log (next_id plan n reading) ask) (is_full n)) = room_answered plan n reading ask (is_full n) h in
+    let a : IsAnswered plan n ask (request plan n reading ask) = request_answered plan n reading ask (refusal n ask) h refl in
     record { gone = a.gone; says = a.says }
 
 pub step_answered : (plan : PlanData) (n : Node) (e : Entry) → IsKept plan n → IsStepped plan n e.input (step plan n e)

@@ -14,12 +14,12 @@ use Rattle.helios_model.specs.World.Ending.{Done}
 use Rattle.helios_model.specs.Laws.Nodes.{IsWaited}
 use Rattle.helios_model.specs.Laws.Histories.{AreAt, SerialAtOneSite, HistoryIsSerial}
 use Rattle.helios_model.proofs.LawProofs.Lists.{all_from, keeps_all, contains_here, contains_filter, contains_from_filter}
-use Rattle.helios_model.proofs.LawProofs.Push.{prepare_stands}
+use Rattle.helios_model.proofs.LawProofs.OneMore.{prepare_stands}
 use Rattle.helios_model.proofs.LawProofs.Committed.{IsEventOf, event_of}
 use Rattle.helios_model.proofs.LawProofs.Starts.{node_gone}
 use Rattle.helios_model.proofs.LawProofs.LogLaws.{node_laws, prepare_own}
 use Rattle.helios_model.proofs.LawProofs.ReachedWorlds.{IsReached, gained_own, each_reached}
-use Rattle.helios_model.proofs.LawProofs.Unheard.{IsUnheard, node_unheard}
+use Rattle.helios_model.proofs.LawProofs.Unheard.{IsUnheard, heard_nothing, node_unheard}
 
 -- as long as sites tell each other nothing, each commit of a log is own
 pub commits_own : (plan : PlanData) (w : World) (k : ℕ) → k < count_of plan
@@ -74,7 +74,7 @@ waited_alone plan w e j h there low_j apart =
     let apart_here : j ≢ n.site = (λ same. apart (same ∙ silent.at_site)) in
     let waited : e.prepare.id.time + latency plan n.site ≤ known plan n n.site j + rtt plan n.site j =
     All-contains (IsWaited plan n) n.log (Commit e.prepare.id e.time) (node_laws plan w k low).waited home.committed (sym silent.at_site) j low_j apart_here in
-    let nothing : known plan n n.site j ≡ 0 = silent.unheard j apart_here in
+    let nothing : known plan n n.site j ≡ 0 = heard_nothing plan k n j silent apart_here in
     let some : 0 < e.prepare.id.time =
     All-contains (λ r. 0 < own_time r) n.log (Prepare e.prepare) (node_laws plan w k low).times.positive (prepare_stands n.log e.prepare home.prepared) in
     let at_n : 1 + latency plan n.site ≤ rtt plan n.site j = omega arith in

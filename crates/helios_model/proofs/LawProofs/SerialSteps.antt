@@ -18,10 +18,10 @@ use Rattle.helios_model.proofs.LawProofs.Ids.{same_id_is}
 use Rattle.helios_model.proofs.LawProofs.Committed.{commits_commit, event_ends}
 
 -- one more commit that follows the map which the others made
-serial_push : (versions : List ℕ → Version) (es : List CommitEvent) (e : CommitEvent) → SerialFrom versions es
+serial_one_more : (versions : List ℕ → Version) (es : List CommitEvent) (e : CommitEvent) → SerialFrom versions es
     → Follows (λ key. fold (version_after key) (versions key) es) e.prepare → SerialFrom versions (es ++ e ∷ [])
-serial_push versions [] e h follows = (follows, tt)
-serial_push versions (x ∷ es) e h follows = (h.0, serial_push (λ key. version_after key (versions key) x) es e h.1 follows)
+serial_one_more versions [] e h follows = (follows, tt)
+serial_one_more versions (x ∷ es) e h follows = (h.0, serial_one_more (λ key. version_after key (versions key) x) es e h.1 follows)
 
 -- the commits of a log stay a serial history where a transaction commits whose versions are current
 pub serial_commit : (log : List Record) (id : TxnId) (time : ℕ) (p : Transaction) → All (IsBacked log) log → IsSerial (commits log) → prepare_of log id ≡ Some p
@@ -29,7 +29,7 @@ pub serial_commit : (log : List Record) (id : TxnId) (time : ℕ) (p : Transacti
 serial_commit log id time p backed h found unended follows =
     subst IsSerial (sym (commits_commit log id time p backed found)) (record {
       distinct = all_pairs_push (λ a b. same_id a.prepare.id b.prepare.id ≡ false) (commits log) (event_at time p) h.distinct differs;
-      serial = serial_push (λ key. Initial) (commits log) (event_at time p) h.serial follows;
+      serial = serial_one_more (λ key. Initial) (commits log) (event_at time p) h.serial follows;
     })
   where
     named : p.id ≡ id

@@ -21,7 +21,7 @@ use Rattle.helios_model.specs.Laws.Nodes.{NodeLaws}
 use Rattle.helios_model.proofs.LawProofs.Placed.{placed_clock}
 use Rattle.helios_model.proofs.LawProofs.Lists.{all_from, find_passes, find_finds, contains_from_filter, pairs_cases, pairs_head, pairs_tail}
 use Rattle.helios_model.proofs.LawProofs.Ids.{same_id_is, same_id_of, same_id_itself}
-use Rattle.helios_model.proofs.LawProofs.Push.{finished_push, prepare_of_grows, unfinished_is, unfinished_has}
+use Rattle.helios_model.proofs.LawProofs.OneMore.{finished_one_more, prepare_of_grows, unfinished_is, unfinished_has}
 use Rattle.helios_model.proofs.LawProofs.NodeSteps.{IsOpen, HasWaited, goes_on_waiting, laws_committed}
 use Rattle.helios_model.proofs.LawProofs.SerialSteps.{serial_commit}
 
@@ -77,7 +77,7 @@ kept_commit plan n p h o w = record {
 still_open : (plan : PlanData) (n : Node) (p q : Transaction) → same_id p.id q.id ≡ false → IsOpen n q → IsOpen (commit_one plan n p.id) q
 still_open plan n p q apart o = record {
   found = prepare_of_grows n.log (Commit p.id (clock plan n + 1) ∷ []) q.id (ap (λ x. is_some x) o.found) ∙ o.found;
-  unended = finished_push n.log (Commit p.id (clock plan n + 1)) q.id ∙ or_from (finished n.log q.id) (same_id p.id q.id) o.unended apart;
+  unended = finished_one_more n.log (Commit p.id (clock plan n + 1)) q.id ∙ or_from (finished n.log q.id) (same_id p.id q.id) o.unended apart;
   own = o.own;
 }
 

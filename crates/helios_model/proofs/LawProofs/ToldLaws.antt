@@ -89,10 +89,10 @@ each_refusal_is_named plan events may =
     (run plan (first_world plan) events).told h.told
 
 stays : (site : ℕ) (history : List CommitEvent) (before log : List Record) (ask : Asking) (reply : Reply)
-    → ((e : CommitEvent) → Contains (commits log) e → Contains history e) → Says site before log ask reply → Stays site history log before ask reply
-stays site history before log ask (Prepared id) known h = record { own = h.own; stands = h.stands }
+    → ((e : CommitEvent) → Contains (commits log) e → Contains history e) → Says site before log ask reply → Stays site history before log ask reply
+stays site history before log ask (Prepared id) known h = h
 stays site history before log ask (Committed id) known h = record {
-  taken = record { own = h.taken.own; stands = h.taken.stands };
+  taken = h.taken;
   event = h.event;
   stands = known h.event h.stands;
   asked_for = h.asked_for;
@@ -103,14 +103,14 @@ stays site history before log ask ClockSpent known h = tt
 stays site history before log ask PoolFull known h = tt
 
 stays_to : (site : ℕ) (history : List CommitEvent) (before log : List Record) (input : Input) (reply : Reply)
-    → ((e : CommitEvent) → Contains (commits log) e → Contains history e) → SaysTo site before log input reply → StaysTo site history log before input reply
+    → ((e : CommitEvent) → Contains (commits log) e → Contains history e) → SaysTo site before log input reply → StaysTo site history before log input reply
 stays_to site history before log (Request ask) reply known h = stays site history before log ask reply known h
 
 told_stays : (plan : PlanData) (w : World) (t : Told) → IsReached plan w → (t.site < count_of plan) × IsToldIn (node_of plan w t.site).log t → ToldStays plan w t
 told_stays plan w t h told =
     let log : List Record = (node_of plan w t.site).log in
     let front : take t.log_length log ≡ told.1.before = ap (take t.log_length) told.1.cut ∙ take_at told.1.before told.1.later t.log_length told.1.size in
-    subst (λ records. StaysTo t.site w.history log records t.input t.reply) (sym front)
+    subst (λ records. StaysTo t.site w.history records log t.input t.reply) (sym front)
     (stays_to t.site w.history told.1.before log t.input t.reply (λ e there. in_history plan w t.site e h told.0 there) told.1.says)
 
 pub each_told_stays : EachToldStays

@@ -1,3 +1,4 @@
+-- How far a site's clock and its open transactions go.
 use Rattle.std.specs.Prelude.{ℕ, ◌-◌, ◌^◌, ◌≤◌, length}
 use Rattle.helios_model.specs.Limits.{most_open}
 use Rattle.helios_model.specs.Plans.{PlanData}

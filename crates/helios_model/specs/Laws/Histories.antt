@@ -1,3 +1,4 @@
+-- What is told and committed: the serial history, the refusals that name their cause, and what stays.
 use Rattle.std.specs.Prelude.{◌≡◌, ℕ, ◌<◌, List, [], ◌∷◌, ◌++◌, length, take, filter, All, Contains}
 use Rattle.helios_model.specs.declared.ids.TxnId.{TxnId}
 use Rattle.helios_model.specs.declared.entries.Input.{Input}
@@ -27,7 +28,8 @@ abbrev pub SerialAtOneSite : Type 0
 SerialAtOneSite = (plan : PlanData) (site : ℕ) → site < count_of plan → (events : List Event) → AreAt site events
     → MayRun plan (first_world plan) events → IsSerial (run plan (first_world plan) events).history
 
--- the history is a serial one in each world of an accepted plan
+-- the history is a serial one in each world of an accepted plan; as long as sites tell each other nothing, at most one of
+-- an accepted plan's sites ever commits, so this says no more across sites
 abbrev pub HistoryIsSerial : Type 0
 HistoryIsSerial = InEachWorld (λ plan w. IsAccepted plan → IsSerial w.history)
 
@@ -43,33 +45,33 @@ EachHistoryIsCommits = InEachWorld HistoryIsCommits
 abbrev pub EachRefusalIsNamed : Type 0
 EachRefusalIsNamed = InEachWorld (λ plan w. All (ToldIsNamed plan w) w.told)
 
--- the transaction that a site was asked for over these records stands in its log, under an id of the site
-pub record IsTaken (site : ℕ) (log records : List Record) (ask : Asking) (id : TxnId) : Type 0 where
+-- the transaction that a site was asked for over the records before stands in its log, under an id of the site
+pub record IsTaken (site : ℕ) (before log : List Record) (ask : Asking) (id : TxnId) : Type 0 where
   pub own : id.site ≡ site
-  pub stands : Contains log (Prepare (asked records id ask))
+  pub stands : Contains log (Prepare (asked before id ask))
 
 -- the same, and it is that of an event of the history
-pub record IsCommitted (site : ℕ) (history : List CommitEvent) (log records : List Record) (ask : Asking) (id : TxnId) : Type 0 where
-  pub taken : IsTaken site log records ask id
+pub record IsCommitted (site : ℕ) (history : List CommitEvent) (before log : List Record) (ask : Asking) (id : TxnId) : Type 0 where
+  pub taken : IsTaken site before log ask id
   pub event : CommitEvent
   pub stands : Contains history event
-  pub asked_for : event.prepare ≡ asked records id ask
+  pub asked_for : event.prepare ≡ asked before id ask
 
 abbrev pub Stays : ℕ → List CommitEvent → List Record → List Record → Asking → Reply → Type 0
-Stays site history log records ask (Prepared id) = IsTaken site log records ask id
-Stays site history log records ask (Committed id) = IsCommitted site history log records ask id
-Stays site history log records ask (Overwritten key version) = Unit {0}
-Stays site history log records ask (Conflict id) = Unit {0}
-Stays site history log records ask ClockSpent = Unit {0}
-Stays site history log records ask PoolFull = Unit {0}
+Stays site history before log ask (Prepared id) = IsTaken site before log ask id
+Stays site history before log ask (Committed id) = IsCommitted site history before log ask id
+Stays site history before log ask (Overwritten key version) = Unit {0}
+Stays site history before log ask (Conflict id) = Unit {0}
+Stays site history before log ask ClockSpent = Unit {0}
+Stays site history before log ask PoolFull = Unit {0}
 
 abbrev pub StaysTo : ℕ → List CommitEvent → List Record → List Record → Input → Reply → Type 0
-StaysTo site history log records (Request ask) reply = Stays site history log records ask reply
+StaysTo site history before log (Request ask) reply = Stays site history before log ask reply
 
 -- a released reply that a transaction was taken or committed is true of what the site was asked for, over the records that
 -- its log had just before the input
 abbrev pub ToldStays : PlanData → World → Told → Type 0
-ToldStays plan w t = StaysTo t.site w.history (node_of plan w t.site).log (take t.log_length (node_of plan w t.site).log) t.input t.reply
+ToldStays plan w t = StaysTo t.site w.history (take t.log_length (node_of plan w t.site).log) (node_of plan w t.site).log t.input t.reply
 
 abbrev pub EachToldStays : Type 0
 EachToldStays = InEachWorld (λ plan w. All (ToldStays plan w) w.told)

@@ -1,15 +1,18 @@
-use Rattle.std.specs.Prelude.{◌≡◌, Bool, true, false, ℕ, ◌<◌, List, ◌∷◌, ◌++◌, All, AllPairs, Contains}
+-- What holds of each site's log in each world.
+use Rattle.std.specs.Prelude.{◌≡◌, Bool, true, false, ℕ, ◌<◌, List, ◌∷◌, ◌++◌, length, drop, All, AllPairs, Contains}
 use Rattle.std.specs.List.{list_any}
 use Rattle.helios_model.specs.declared.ids.TxnId.{TxnId}
+use Rattle.helios_model.specs.declared.entries.Entry.{Entry}
 use Rattle.helios_model.specs.declared.records.Record.{Record}
 use Rattle.helios_model.specs.declared.records.Record.TheVariants.{Prepare, Commit, Abort}
 use Rattle.helios_model.specs.Ids.{same_id}
 use Rattle.helios_model.specs.Transactions.{Transaction, conflict}
 use Rattle.helios_model.specs.Plans.{PlanData, count_of}
 use Rattle.helios_model.specs.Log.{origin, ends, finished, prepares, current}
-use Rattle.helios_model.specs.Node.{Node}
+use Rattle.helios_model.specs.Node.{Node, empty_node}
 use Rattle.helios_model.specs.Serial.{Follows}
-use Rattle.helios_model.specs.World.{World, node_of}
+use Rattle.helios_model.specs.Step.{after_entry, after_entries}
+use Rattle.helios_model.specs.World.{World, entries_of, node_of}
 use Rattle.helios_model.specs.Laws.Reached.{InEachWorld, AtEachNode}
 use Rattle.helios_model.specs.Laws.Shapes.{EachBehind}
 use Rattle.helios_model.specs.Laws.Order.{IsPending, IsClearBehind}
@@ -25,7 +28,8 @@ LogIsOwn plan n = All (λ r. origin r ≡ n.site) n.log
 abbrev pub EachLogIsOwn : Type 0
 EachLogIsOwn = AtEachNode LogIsOwn
 
--- no two Prepares of a log have one id, and a Prepare of an id is the same in each log
+-- no two Prepares of a log have one id, and a Prepare of an id is the same in each log; as long as sites tell each other
+-- nothing, no two logs hold one id
 pub record IdsAreGivenOnce (plan : PlanData) (w : World) : Type 0 where
   pub in_log : (k : ℕ) → k < count_of plan → AllPairs (λ p q. same_id p.id q.id ≡ false) (prepares (node_of plan w k).log)
   pub across : (i j : ℕ) → i < count_of plan → j < count_of plan → (p q : Transaction) → Contains (prepares (node_of plan w i).log) p
@@ -94,8 +98,16 @@ VersionsWereCurrent plan n = EachBehind (FollowsBefore n.site) n.log
 abbrev pub EachVersionWasCurrent : Type 0
 EachVersionWasCurrent = AtEachNode VersionsWereCurrent
 
-abbrev pub CommitsWaited : PlanData → Node → Type 0
-CommitsWaited plan n = All (IsWaited plan n) n.log
+-- what an input adds to the log waited by the table just after it
+abbrev pub NewCommitsWaited : PlanData → Node → Entry → Type 0
+NewCommitsWaited plan n e = All (IsWaited plan (after_entry plan n e)) (drop (length n.log) (after_entry plan n e).log)
+
+-- each own Commit waited, by the table as it stood at the Commit: settling changes no other site's time, so that table is,
+-- but for the site's own time, the one just after the input at which it came; and so it still is by the table of today
+pub record CommitsWaited (plan : PlanData) (w : World) (k : ℕ) : Type 0 where
+  pub at_commit : (before : List Entry) (e : Entry) (after : List Entry) → entries_of w k ≡ before ++ e ∷ after
+      → NewCommitsWaited plan (after_entries plan (empty_node plan k) before) e
+  pub still : All (IsWaited plan (node_of plan w k)) (node_of plan w k).log
 
 abbrev pub EachCommitWaited : Type 0
-EachCommitWaited = AtEachNode CommitsWaited
+EachCommitWaited = InEachWorld (λ plan w. (k : ℕ) → k < count_of plan → CommitsWaited plan w k)

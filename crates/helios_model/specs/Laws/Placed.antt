@@ -1,3 +1,4 @@
+-- Each site has its journal, and its node is its own.
 use Rattle.std.specs.Prelude.{◌≡◌, ℕ, ◌*◌, length}
 use Rattle.helios_model.specs.Plans.{PlanData, count_of}
 use Rattle.helios_model.specs.Node.{Node}

@@ -1,3 +1,4 @@
+-- What a log keeps of its Prepares, open or ended.
 use Rattle.std.specs.Prelude.{◌≡◌, true, false, ℕ, List, All, AllPairs, is_some}
 use Rattle.helios_model.specs.declared.records.Record.{Record}
 use Rattle.helios_model.specs.declared.records.Record.TheVariants.{Prepare, Commit, Abort}

@@ -1,3 +1,4 @@
+-- The worlds that steps reach from the first one.
 use Rattle.std.specs.Prelude.{ℕ, ◌<◌, List}
 use Rattle.helios_model.specs.Plans.{PlanData, count_of}
 use Rattle.helios_model.specs.Node.{Node}

@@ -1,3 +1,4 @@
+-- What a client may rely on.
 use Rattle.std.specs.Prelude.{All}
 use Rattle.helios_model.specs.Plans.{PlanData, IsAccepted}
 use Rattle.helios_model.specs.World.{World}

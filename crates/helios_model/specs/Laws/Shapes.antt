@@ -1,3 +1,4 @@
+-- Shapes of statements about a list of records.
 use Rattle.std.specs.Prelude.{◌≡◌, ◌<◌, List, ◌∷◌, ◌++◌, AllPairs}
 use Rattle.helios_model.specs.declared.records.Record.{Record}
 use Rattle.helios_model.specs.Log.{origin, own_time}

@@ -3,4 +3,4 @@ use Rattle.schedule_replay.proofs.Rests.{clash_rest}
 use Rattle.schedule_replay.proofs.scan.first_clash.Given as goal
 
 abbrev pub invariant-loop-r : goal.invariant-loop-r
-invariant-loop-r l = clash_rest l.log l.p (drop l.r-index l.log) ≡ clash_rest l.log l.p l.log
+invariant-loop-r l = clash_rest l.log l.ask (drop l.r-index l.log) ≡ clash_rest l.log l.ask l.log
