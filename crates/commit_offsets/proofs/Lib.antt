@@ -1,8 +1,5 @@
 pub mod Acceptance
-pub mod Below
-pub mod Differences
-pub mod FieldForms
+pub mod Counting
 pub mod Printed
 pub mod ReadAgain
 pub mod Rows
-pub mod Squares

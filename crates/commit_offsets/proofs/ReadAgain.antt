@@ -1,32 +1,33 @@
 -- What is printed of a plan is read as the plan.
-use Rattle.std.proofs.Common.{◌≡◌, ℕ, zero, suc, ◌+◌, ◌*◌, ◌/◌, ◌%◌, ◌<◌, ◌≤◌, ◌^◌, Bool, true, false, cond, ◌&&◌, ℤ, pos, List, [], ◌∷◌, ◌++◌, Option, Some, None, Result, Ok, Err, length, map, get_or, refl, sym, ◌∙◌, ap, arith, add-one, append_assoc}
-use Rattle.std.specs.Prelude.{negsuc, ◌-ℤ◌, ◌≤ℤ◌, nat_eq, nat_le, ◌==◌, not, All, sum, option_map, option_and_then, IsTrue}
+use Rattle.std.proofs.Common.{◌≡◌, inl, inr, ℕ, zero, suc, ◌+◌, ◌*◌, ◌/◌, ◌%◌, ◌<◌, ◌≤◌, ◌^◌, Bool, true, false, cond, ◌&&◌, ℤ, pos, List, [], ◌∷◌, ◌++◌, Option, Some, None, Result, Ok, Err, length, map, get_or, refl, sym, ◌∙◌, ap, arith, add-one, append_assoc}
+use Rattle.std.specs.Prelude.{negsuc, ◌-ℤ◌, ◌≤ℤ◌, nat_eq, nat_le, ◌==◌, not, All, sum, is_none, option_map, option_and_then}
 use Rattle.std.specs.Ordering.{int_eq}
 use Rattle.std.specs.List.{flat_map, list_all, range_with_len}
 use Rattle.std.proofs.lemmas.Cmp.{int_eq_equiv}
-use Rattle.std.proofs.lemmas.Bool.{le-leb, lt-ltb, eq-eqb, ne_eqb, and_from}
+use Rattle.std.proofs.lemmas.Bool.{cases_lt, le-leb, lt-ltb, eq-eqb, and_from}
 use Rattle.std.proofs.lemmas.Grind.{flat_map-append}
 use Rattle.std.proofs.lemmas.Int.{ints}
-use Rattle.std.proofs.lemmas.List.{length-map, append-nil}
-use Rattle.std.proofs.lemmas.List.Elements.{All-weaker}
+use Rattle.std.proofs.lemmas.List.{length-map, append-nil, get_or_past}
+use Rattle.std.proofs.lemmas.List.Elements.{All-get_or, All-weaker}
 use Rattle.std.proofs.lemmas.List.FromFn.{map-range_with_len_more, length-range_with_len, fill_by_all, get_or-map-range_with_len}
 use Rattle.std.proofs.lemmas.List.Sums.{list_all-from_AllPass}
 use Rattle.std.proofs.lemmas.Nat.{div-mul-add, mod-mul-add, div-add-mod'}
-use Rattle.helios_model.specs.Texts.{all_differ, IsName, IsNameByte}
 use Rattle.helios_model.specs.Limits.{longest_trip, greatest_latency}
 use Rattle.helios_model.specs.Offset.{offset}
 use Rattle.helios_model.specs.Plans.{PlanData, IsMatrix, IsPlan, count_of, rtt, latency, trip_at}
 use Rattle.helios_model.specs.declared.plans.Certificate.{Certificate}
-use Rattle.helios_model.proofs.FirstBelow.{find_none}
-use Rattle.helios_model.proofs.PlanLimits.{latency_bounded}
-use Rattle.json_text.specs.Arrays.{whole_number, integer, each_of, counted, array_of, row_of, square_of}
-use Rattle.json_text.specs.Names.{is_name_byte, is_name}
+use Rattle.helios_model.specs.Naming.{is_count}
+use Rattle.helios_model.specs.Passing.{EachMatrixPasses, EachSearchFindsFirst}
+use Rattle.helios_model.specs.Squares.{first_away, first_uneven}
+use Rattle.json_text.specs.Lists.{each_of}
+use Rattle.serde_json.specs.Events.{items_len}
+use Rattle.json_text.specs.Arrays.{whole_number, integer, counted, array_of, row_of, square_of}
 use Rattle.json_text.specs.Reading.{◌>>=◌, required, demand}
 use Rattle.json_text.specs.Text.{json_of}
 use Rattle.serde_json.specs.Data.{Data, string}
 use Rattle.serde_json.specs.Find.{as_str}
 use Rattle.serde_json.specs.View.{items_of}
-use Rattle.commit_offsets.specs.Forms.{passing, are_names, is_symmetric_row, is_symmetric, has_zero_diagonal, names_of, trips_of, version_of}
+use Rattle.commit_offsets.specs.Forms.{passing, are_good, is_even, names_in, names_of, trips_of, version_of}
 use Rattle.commit_offsets.specs.Printing.{whole, signed, array_data, row_data, square_data, members_data, plan_data}
 use Rattle.commit_offsets.specs.Reading.{differs_at, other_offset, offset_refusal, limited, fields_at, accepted, plan_at, plan_of_text}
 use Rattle.commit_offsets.specs.declared.data.PlanFields.{PlanFields}
@@ -34,7 +35,6 @@ use Rattle.commit_offsets.specs.declared.refusal.FieldName.{FieldName}
 use Rattle.commit_offsets.specs.declared.refusal.FieldName.TheVariants as fields
 use Rattle.commit_offsets.specs.declared.refusal.PlanRefusal.{PlanRefusal}
 use Rattle.commit_offsets.specs.declared.refusal.PlanRefusal.TheVariants as refusals
-use Rattle.commit_offsets.proofs.Below.{all_below}
 
 -- ---- arrays
 
@@ -103,47 +103,30 @@ trips_flat n trips long =
 
 -- ---- fields
 
-name_true : (bytes : List ℕ) → IsName bytes → is_name bytes ≡ true
-unfolding is_name
-name_true bytes name =
-    let some : not (length bytes == 0) ≡ true = ap not (ne_eqb (length bytes) 0 (let h : 1 ≤ length bytes = name.some in λ none. omega arith)) in
-    let most : nat_le (length bytes) 32 ≡ true = le-leb (length bytes) 32 name.most in
-    let printable : list_all is_name_byte bytes ≡ true = list_all-from_AllPass is_name_byte bytes (All-weaker IsNameByte (λ b. is_name_byte b ≡ true) (λ b in_range. and_from (nat_le 33 b) (nat_le b 126) (le-leb 33 b in_range.0) (le-leb b 126 in_range.1)) bytes name.printable) in
-    and_from (not (length bytes == 0) && nat_le (length bytes) 32) (list_all is_name_byte bytes) (and_from (not (length bytes == 0)) (nat_le (length bytes) 32) some most) printable
+-- as many items as the list has
+items_of_len : {X : Type 0} (f : X → Data) (xs : List X) → items_len (items_of (map f xs)) ≡ length xs
+items_of_len f [] = refl
+items_of_len f (x ∷ xs) = (let rest : items_len (items_of (map f xs)) ≡ length xs = items_of_len f xs in omega arith)
 
-are_names_true : (names : List (List ℕ)) (trips : List ℕ) → IsMatrix names trips → are_names names ≡ true
-unfolding are_names
-are_names_true names trips limits =
-    let n : ℕ = length names in
-    let some : not (n == 0) ≡ true = ap not (ne_eqb n 0 (let h : 1 ≤ n = limits.some in λ none. omega arith)) in
-    let few : nat_le n 32 ≡ true = le-leb n 32 limits.few in
-    let named : list_all is_name names ≡ true = list_all-from_AllPass is_name names (All-weaker IsName (λ name. is_name name ≡ true) name_true names limits.named) in
-    and_from (not (n == 0) && nat_le n 32 && list_all is_name names) (all_differ (λ name. name) names)
-    (and_from (not (n == 0) && nat_le n 32) (list_all is_name names) (and_from (not (n == 0)) (nat_le n 32) some few) named) limits.distinct
+names_read : EachMatrixPasses → (names : List (List ℕ)) (trips : List ℕ) → IsMatrix names trips → names_of (array_data string names) ≡ Some names
+unfolding names_in
+names_read passes names trips limits =
+    let found : each_of as_str (items_of (map string names)) ≡ Some names = each_of-map as_str string (λ name. name) (λ name. refl) names ∙ ap Some (map_same names) in
+    let count : is_count (length names) ≡ true = and_from (nat_le 1 (length names)) (nat_le (length names) 32) (le-leb 1 (length names) limits.some) (le-leb (length names) 32 limits.few) in
+    ap (λ n. cond (is_count n) (option_and_then (passing are_good) (each_of as_str (items_of (map string names)))) None) (items_of_len string names)
+    ∙ ap (λ b. cond b (option_and_then (passing are_good) (each_of as_str (items_of (map string names)))) None) count
+    ∙ ap (option_and_then (passing are_good)) found
+    ∙ ap (λ o. cond (is_none o) (Some names) None) (passes names trips limits).named
 
-names_read : (names : List (List ℕ)) (trips : List ℕ) → IsMatrix names trips → names_of (array_data string names) ≡ Some names
-unfolding names_of array_of
-names_read names trips limits =
-    ap (option_and_then (passing are_names)) (each_of-map as_str string (λ name. name) (λ name. refl) names ∙ ap Some (map_same names))
-    ∙ ap (λ b. cond b (Some names) None) (are_names_true names trips limits)
+even_true : EachMatrixPasses → (names : List (List ℕ)) (trips : List ℕ) → IsMatrix names trips → is_even (length names) trips ≡ true
+even_true passes names trips limits = and_from (is_none (first_uneven (length names) trips)) (is_none (first_away (length names) trips)) (ap is_none (passes names trips limits).even) (ap is_none (passes names trips limits).home)
 
-symmetric_true : (names : List (List ℕ)) (trips : List ℕ) → IsMatrix names trips → is_symmetric (length names) trips ≡ true
-unfolding is_symmetric
-symmetric_true names trips limits =
-    let n : ℕ = length names in
-    all_below (is_symmetric_row n trips) n (λ i row. all_below (λ j. trip_at n trips i j == trip_at n trips j i) n (λ j column. eq-eqb (trip_at n trips i j) (trip_at n trips j i) (limits.symmetric i j row column)))
-
-diagonal_true : (names : List (List ℕ)) (trips : List ℕ) → IsMatrix names trips → has_zero_diagonal (length names) trips ≡ true
-unfolding has_zero_diagonal
-diagonal_true names trips limits = (let n : ℕ = length names in all_below (λ i. trip_at n trips i i == 0) n (λ i row. eq-eqb (trip_at n trips i i) 0 (limits.diagonal i row)))
-
-trips_read : (names : List (List ℕ)) (trips : List ℕ) → IsMatrix names trips → trips_of (length names) (square_data (length names) (λ i j. whole (trip_at (length names) trips i j))) ≡ Some trips
+trips_read : EachMatrixPasses → (names : List (List ℕ)) (trips : List ℕ) → IsMatrix names trips → trips_of (length names) (square_data (length names) (λ i j. whole (trip_at (length names) trips i j))) ≡ Some trips
 unfolding trips_of
-trips_read names trips limits =
+trips_read passes names trips limits =
     let n : ℕ = length names in
-    let test : List ℕ → Bool = λ ts. is_symmetric n ts && has_zero_diagonal n ts in
-    ap (option_and_then (passing test)) (square_read n whole_number (λ i j. whole (trip_at n trips i j)) (trip_at n trips) (λ i j. refl) ∙ ap Some (trips_flat n trips limits.square))
-    ∙ ap (λ b. cond b (Some trips) None) (and_from (is_symmetric n trips) (has_zero_diagonal n trips) (symmetric_true names trips limits) (diagonal_true names trips limits))
+    ap (option_and_then (passing (is_even n))) (square_read n whole_number (λ i j. whole (trip_at n trips i j)) (trip_at n trips) (λ i j. refl) ∙ ap Some (trips_flat n trips limits.square))
+    ∙ ap (λ b. cond b (Some trips) None) (even_true passes names trips limits)
 
 numbers_read : (n : ℕ) (xs : List ℕ) → length xs ≡ n → row_of n whole_number (array_data whole xs) ≡ Some xs
 numbers_read n xs long = row_read n whole_number whole (λ x. x) (λ x. refl) xs long ∙ ap Some (map_same xs)
@@ -154,6 +137,13 @@ integer_signed (pos n) small = ap (λ b. cond b (Some (pos n)) None) (lt-ltb n (
     below : (k : ℕ) → pos k ≤ℤ pos greatest_latency → k < 2 ^ 63
     below k h = omega (arith, ints)
 integer_signed (negsuc n) small = refl
+
+-- no latency is over its limit, read at any place
+latency_bounded : (plan : PlanData) → IsPlan plan.names plan.trips plan.latencies → (i : ℕ) → latency plan i ≤ greatest_latency
+latency_bounded plan limits i = elim (cases_lt i (length plan.latencies)) [
+  | inl within ↦ All-get_or (λ x. x ≤ greatest_latency) plan.latencies i 0 within limits.bounded
+  | inr past ↦ (let none : get_or plan.latencies i 0 ≡ 0 = get_or_past plan.latencies i 0 past in omega arith)
+]
 
 offset_small : (plan : PlanData) → IsPlan plan.names plan.trips plan.latencies → (i j : ℕ) → offset plan i j ≤ℤ pos greatest_latency
 offset_small plan limits i j = by_case (nat_eq i j) (latency plan i) (rtt plan i j) (latency_bounded plan limits i)
@@ -173,11 +163,11 @@ offsets_read plan limits = square_read (count_of plan) integer (λ i j. signed (
 abbrev fields_of : PlanData → List ℕ → PlanFields
 fields_of plan pair = record { names = plan.names; trips = plan.trips; latencies = plan.latencies; offsets = offsets_list plan; pair = pair; total = sum plan.latencies }
 
-fields_read : (plan : PlanData) (pair : List ℕ) → IsPlan plan.names plan.trips plan.latencies → length pair ≡ count_of plan → fields_at (plan_data plan pair) ≡ Ok (fields_of plan pair)
+fields_read : EachMatrixPasses → (plan : PlanData) (pair : List ℕ) → IsPlan plan.names plan.trips plan.latencies → length pair ≡ count_of plan → fields_at (plan_data plan pair) ≡ Ok (fields_of plan pair)
 unfolding fields_at members_data version_of
-fields_read plan pair limits long =
-    let names : names_of (array_data string plan.names) ≡ Some plan.names = names_read plan.names plan.trips limits.matrix in
-    let trips : trips_of (count_of plan) (square_data (count_of plan) (λ i j. whole (rtt plan i j))) ≡ Some plan.trips = trips_read plan.names plan.trips limits.matrix in
+fields_read passes plan pair limits long =
+    let names : names_of (array_data string plan.names) ≡ Some plan.names = names_read passes plan.names plan.trips limits.matrix in
+    let trips : trips_of (count_of plan) (square_data (count_of plan) (λ i j. whole (rtt plan i j))) ≡ Some plan.trips = trips_read passes plan.names plan.trips limits.matrix in
     let latencies : row_of (count_of plan) whole_number (array_data whole plan.latencies) ≡ Some plan.latencies = numbers_read (count_of plan) plan.latencies limits.planned in
     let offsets : square_of (count_of plan) integer (square_data (count_of plan) (λ i j. signed (offset plan i j))) ≡ Some (offsets_list plan) = offsets_read plan limits in
     let pairs : row_of (count_of plan) whole_number (array_data whole pair) ≡ Some pair = numbers_read (count_of plan) pair long in
@@ -186,11 +176,10 @@ fields_read plan pair limits long =
 int_same : (z : ℤ) → int_eq z z ≡ true
 int_same z = (int_eq_equiv).refl z
 
-no_other : (plan : PlanData) → other_offset plan (offsets_list plan) ≡ None
-unfolding other_offset
-no_other plan =
+no_other : EachSearchFindsFirst → (plan : PlanData) → other_offset plan (offsets_list plan) ≡ None
+no_other finds plan =
     let n : ℕ = count_of plan in
-    find_none (differs_at plan (offsets_list plan)) (n * n) (λ k low.
+    (finds (differs_at plan (offsets_list plan)) (n * n)).none (λ k low.
     let at : get_or (offsets_list plan) k (pos 0) ≡ offset plan (k / n) (k % n) =
     ap (λ xs. get_or xs k (pos 0)) (flat_square (offset plan) n n) ∙ get_or-map-range_with_len (by_place n (offset plan)) 0 (n * n) k k (pos 0) low (omega arith) in
     ap (λ z. not (int_eq z (offset plan (k / n) (k % n)))) at ∙ ap not (int_same (offset plan (k / n) (k % n))))
@@ -199,22 +188,22 @@ within_read : (name : FieldName) (limit : ℕ) (xs : List ℕ) → All (λ x. x 
 unfolding limited
 within_read name limit xs low = ap (demand (refusals.Limit name)) (list_all-from_AllPass (λ x. nat_le x limit) xs (All-weaker (λ x. x ≤ limit) (λ x. nat_le x limit ≡ true) (λ x h. le-leb x limit h) xs low))
 
-accepted_read : (plan : PlanData) (pair : List ℕ) → IsPlan plan.names plan.trips plan.latencies → All (λ partner. partner ≤ 31) pair → accepted (fields_of plan pair) ≡ Ok (plan, record { pair = pair })
+accepted_read : EachSearchFindsFirst → (plan : PlanData) (pair : List ℕ) → IsPlan plan.names plan.trips plan.latencies → All (λ partner. partner ≤ 31) pair → accepted (fields_of plan pair) ≡ Ok (plan, record { pair = pair })
 unfolding accepted
-accepted_read plan pair limits sites =
+accepted_read finds plan pair limits sites =
     let trips : limited fields.Rtt longest_trip plan.trips ≡ Ok tt = within_read fields.Rtt longest_trip plan.trips limits.matrix.short in
     let latencies : limited fields.Latency greatest_latency plan.latencies ≡ Ok tt = within_read fields.Latency greatest_latency plan.latencies limits.bounded in
     let pairs : limited fields.Pair 31 pair ≡ Ok tt = within_read fields.Pair 31 pair sites in
-    let offsets : other_offset plan (offsets_list plan) ≡ None = no_other plan in
+    let offsets : other_offset plan (offsets_list plan) ≡ None = no_other finds plan in
     let total : nat_eq (sum plan.latencies) (sum plan.latencies) ≡ true = eq-eqb (sum plan.latencies) (sum plan.latencies) refl in
     rw (trips, latencies, pairs, offsets, total) refl
 
 -- the value of a plan within its limits is read as the plan
-pub read_again : (plan : PlanData) (pair : List ℕ) → IsPlan plan.names plan.trips plan.latencies → length pair ≡ count_of plan → All (λ partner. partner ≤ 31) pair → plan_at (plan_data plan pair) ≡ Ok (plan, record { pair = pair })
+pub read_again : EachMatrixPasses → EachSearchFindsFirst → (plan : PlanData) (pair : List ℕ) → IsPlan plan.names plan.trips plan.latencies → length pair ≡ count_of plan → All (λ partner. partner ≤ 31) pair → plan_at (plan_data plan pair) ≡ Ok (plan, record { pair = pair })
 unfolding plan_at
-read_again plan pair limits long sites = ap (λ r. r >>= accepted) (fields_read plan pair limits long) ∙ accepted_read plan pair limits sites
+read_again passes finds plan pair limits long sites = ap (λ r. r >>= accepted) (fields_read passes plan pair limits long) ∙ accepted_read finds plan pair limits sites
 
 -- a text of that value is read as the plan
-pub text_read_again : (plan : PlanData) (pair text : List ℕ) → IsPlan plan.names plan.trips plan.latencies → length pair ≡ count_of plan → All (λ partner. partner ≤ 31) pair → json_of text ≡ Some (plan_data plan pair) → plan_of_text text ≡ Ok (plan, record { pair = pair })
+pub text_read_again : EachMatrixPasses → EachSearchFindsFirst → (plan : PlanData) (pair text : List ℕ) → IsPlan plan.names plan.trips plan.latencies → length pair ≡ count_of plan → All (λ partner. partner ≤ 31) pair → json_of text ≡ Some (plan_data plan pair) → plan_of_text text ≡ Ok (plan, record { pair = pair })
 unfolding plan_of_text
-text_read_again plan pair text limits long sites is = ap (λ o. required refusals.NotJson o >>= plan_at) is ∙ read_again plan pair limits long sites
+text_read_again passes finds plan pair text limits long sites is = ap (λ o. required refusals.NotJson o >>= plan_at) is ∙ read_again passes finds plan pair limits long sites

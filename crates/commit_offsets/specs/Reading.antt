@@ -1,17 +1,19 @@
 -- A plan and its certificate as a text says them, or the first rule that the text breaks.
-use Rattle.std.specs.Prelude.{◌≡◌, true, ℕ, ℤ, ◌*◌, ◌/◌, ◌%◌, ◌==◌, Bool, not, nat_le, List, length, Option, Some, None, option_and_then, Result, Ok, Err, find, sum, slice_index_or, pos}
+use Rattle.std.specs.Prelude.{◌≡◌, ℕ, ℤ, ◌*◌, ◌≤◌, ◌/◌, ◌%◌, ◌==◌, Bool, not, nat_le, List, length, Option, Some, None, option_and_then, Result, Ok, Err, sum, slice_index_or, pos}
 use Rattle.std.specs.Ordering.{int_eq}
-use Rattle.std.specs.List.{list_all, range_with_len}
-use Rattle.helios_model.specs.Limits.{longest_trip, greatest_latency}
+use Rattle.std.specs.List.{list_all}
+use Rattle.helios_model.specs.Limits.{longest_trip, greatest_latency, most_sites}
+use Rattle.helios_model.specs.Naming.{AreNames}
 use Rattle.helios_model.specs.Offset.{offset}
 use Rattle.helios_model.specs.Plans.{PlanData, count_of}
+use Rattle.helios_model.specs.Squares.{first_below, IsSymmetric, IsZeroOnDiagonal}
 use Rattle.helios_model.specs.declared.plans.Certificate.{Certificate}
 use Rattle.json_text.specs.Arrays.{whole_number}
 use Rattle.json_text.specs.Reading.{◌>>=◌, required, demand}
 use Rattle.json_text.specs.Text.{json_of}
 use Rattle.serde_json.specs.Data.{Data}
 use Rattle.serde_json.specs.Find.{get, as_object}
-use Rattle.commit_offsets.specs.Forms.{are_names, is_symmetric, has_zero_diagonal, version_of, names_of, trips_of, latencies_of, offsets_of, pair_of}
+use Rattle.commit_offsets.specs.Forms.{version_of, names_of, trips_of, latencies_of, offsets_of, pair_of}
 use Rattle.commit_offsets.specs.Lines.{field_text}
 use Rattle.commit_offsets.specs.declared.data.PlanFields.{PlanFields}
 use Rattle.commit_offsets.specs.declared.refusal.FieldName.{FieldName}
@@ -25,10 +27,12 @@ field name form d = required (refusals.BadField name) (option_and_then form (get
 
 -- fields of their forms: as many of each as names
 pub record HaveForms (f : PlanFields) : Type 0 where
-  pub names : are_names f.names ≡ true
+  pub some : 1 ≤ length f.names
+  pub few : length f.names ≤ most_sites
+  pub names : AreNames f.names
   pub square : length f.trips ≡ length f.names * length f.names
-  pub symmetric : is_symmetric (length f.names) f.trips ≡ true
-  pub diagonal : has_zero_diagonal (length f.names) f.trips ≡ true
+  pub symmetric : IsSymmetric (length f.names) f.trips
+  pub diagonal : IsZeroOnDiagonal (length f.names) f.trips
   pub latencies : length f.latencies ≡ length f.names
   pub offsets : length f.offsets ≡ length f.names * length f.names
   pub pair : length f.pair ≡ length f.names
@@ -55,8 +59,8 @@ abbrev pub differs_at : PlanData → List ℤ → ℕ → Bool
 differs_at plan offsets place = not (int_eq (slice_index_or offsets place (pos 0)) (offset plan (place / count_of plan) (place % count_of plan)))
 
 -- the first place, in row order, of an offset that isn't the plan's
-unfoldable pub other_offset : PlanData → List ℤ → Option ℕ
-other_offset plan offsets = find (differs_at plan offsets) (range_with_len 0 (count_of plan * count_of plan))
+abbrev pub other_offset : PlanData → List ℤ → Option ℕ
+other_offset plan offsets = first_below (differs_at plan offsets) (count_of plan * count_of plan)
 
 -- the offset of two sites differs where there is such a place
 abbrev pub offset_refusal : ℕ → Option ℕ → Result (Unit {0}) PlanRefusal

@@ -1,18 +1,21 @@
-ghost use Rattle.std.specs.Prelude.{◌≡◌, ◌*◌, ◌≤◌, true, length, map, string_bytes, IfOk};
+ghost use Rattle.std.specs.Prelude.{◌≡◌, ◌*◌, ◌≤◌, length, IfOk};
+ghost use Rattle.helios_model.specs.Limits.{most_sites};
+ghost use Rattle.helios_model.specs.Naming.{AreNames};
+ghost use Rattle.helios_model.specs.Squares.{IsSymmetric, IsZeroOnDiagonal};
 ghost use Rattle.json_text.specs.Arrays.{whole_number};
 ghost use Rattle.json_text.specs.Reading.{Gives};
-ghost use Rattle.serde_json.specs.View.{view};
-ghost use Rattle.commit_offsets.specs.Forms.{are_names, has_zero_diagonal, is_symmetric, latencies_of, names_of, offsets_of, pair_of, trips_of, version_of};
+ghost use Rattle.json_text.specs.Unread.{Reads};
+ghost use Rattle.serde_json.specs.View.{items_view, view};
+ghost use Rattle.commit_offsets.specs.Forms.{latencies_of, names_in, names_of, offsets_of, pair_of, trips_of, version_of};
 ghost use Rattle.commit_offsets.specs.Reading.{HaveForms, field, fields_at};
 ghost use Rattle.commit_offsets.specs.declared.refusal.FieldName.TheVariants as fields;
 
 use crate::data::{GivenOffsets, PlanFields};
-use crate::forms::{are_names, has_zero_diagonal, is_symmetric};
 use crate::refusal::{FieldName, PlanRefusal};
-use helios_model::{Name, Names, Times};
-use json_text::{row, square, texts};
+use helios_model::{MOST_SITES, Names, Times, first_away, first_bad_name, first_uneven};
+use json_text::{Unread, array_member, read_names, read_row, read_square};
 use serde_json::Value;
-use std::alloc::{AllocError, Global};
+use std::alloc::Global;
 
 #[tactic(auto, unfolding(crate::specs::Forms::version_of))]
 fn version(value: &Value) -> Result<u64, PlanRefusal>
@@ -24,46 +27,73 @@ fn version(value: &Value) -> Result<u64, PlanRefusal>
     }
 }
 
-fn named(alloc: Global, texts: Vec<String>) -> Result<Vec<Name>, AllocError>
-    ensures { IfOk result (λ names. names.items ≡ map string_bytes texts.items) }
+// The names of the sites of a cluster. How many there are is tested before the first is copied.
+#[tactic(auto, using(crate::proofs::Counting::counted, crate::proofs::Counting::too_few, crate::proofs::Counting::too_many))]
+fn names_in(alloc: Global, texts: &[Value]) -> Result<Names, Unread>
+    ensures exact { Reads result (names_in (items_view texts.now)) }
+    ensures some { IfOk result (λ names. 1 ≤ length names) }
+    ensures few { IfOk result (λ names. length names ≤ most_sites) }
+    ensures form { IfOk result AreNames }
 {
-    texts.into_iter().map(Name::new).collect(alloc)
-}
-
-#[tactic(auto, unfolding(crate::specs::Forms::names_of))]
-fn names(alloc: Global, value: &Value) -> Result<Names, PlanRefusal>
-    ensures exact { Gives PlanRefusal.NoMemory result (field fields.Names names_of (view value.now)) }
-    ensures form { IfOk result (λ names. are_names names ≡ true) }
-{
-    let field = value
-        .get("names")
-        .ok_or(PlanRefusal::BadField(FieldName::Names))?;
-    let texts = texts(alloc, field)?.ok_or(PlanRefusal::BadField(FieldName::Names))?;
-    let names = named(alloc, texts)?;
-    if are_names(names.as_slice()) {
-        Ok(Names::new(names))
-    } else {
-        Err(PlanRefusal::BadField(FieldName::Names))
+    if texts.is_empty() {
+        return Err(Unread::OtherForm);
+    }
+    if texts.len() > MOST_SITES as usize {
+        return Err(Unread::OtherForm);
+    }
+    let names = read_names(alloc, texts)?;
+    match first_bad_name(names.as_slice()) {
+        None => Ok(Names::new(names)),
+        Some(_) => Err(Unread::OtherForm),
     }
 }
 
+fn names(alloc: Global, value: &Value) -> Result<Names, PlanRefusal>
+    ensures exact { Gives PlanRefusal.NoMemory result (field fields.Names names_of (view value.now)) }
+    ensures some { IfOk result (λ names. 1 ≤ length names) }
+    ensures few { IfOk result (λ names. length names ≤ most_sites) }
+    ensures form { IfOk result AreNames }
+{
+    let texts = array_member(value, "names").ok_or(PlanRefusal::BadField(FieldName::Names))?;
+    names_in(alloc, texts.as_slice()).map_err(|unread| unread.because(PlanRefusal::BadField(
+        FieldName::Names,
+    )))
+}
+
+// The round trips of a square that is the same read by columns, with 0 on the diagonal.
 #[tactic(auto, unfolding(crate::specs::Forms::trips_of))]
+fn even_trips(alloc: Global, count: usize, field: &Value) -> Result<Times, Unread>
+    requires some { 1 ≤ count }
+    requires few { count ≤ most_sites }
+    ensures exact { Reads result (trips_of count (view field.now)) }
+    ensures size { IfOk result (λ trips. length trips ≡ count * count) }
+    ensures symmetric { IfOk result (IsSymmetric count) }
+    ensures diagonal { IfOk result (IsZeroOnDiagonal count) }
+{
+    let trips = read_square(alloc, count, field)?;
+    if first_uneven(count, trips.as_slice()).is_some() {
+        return Err(Unread::OtherForm);
+    }
+    if first_away(count, trips.as_slice()).is_some() {
+        return Err(Unread::OtherForm);
+    }
+    Ok(Times::new(trips))
+}
+
 fn trips(alloc: Global, count: usize, value: &Value) -> Result<Times, PlanRefusal>
-    requires { count ≤ 32 }
+    requires some { 1 ≤ count }
+    requires few { count ≤ most_sites }
     ensures exact { Gives PlanRefusal.NoMemory result (field fields.Rtt (trips_of count) (view value.now)) }
     ensures size { IfOk result (λ trips. length trips ≡ count * count) }
-    ensures symmetric { IfOk result (λ trips. is_symmetric count trips ≡ true) }
-    ensures diagonal { IfOk result (λ trips. has_zero_diagonal count trips ≡ true) }
+    ensures symmetric { IfOk result (IsSymmetric count) }
+    ensures diagonal { IfOk result (IsZeroOnDiagonal count) }
 {
     let field = value
         .get("rtt")
         .ok_or(PlanRefusal::BadField(FieldName::Rtt))?;
-    let trips = square(alloc, count, field)?.ok_or(PlanRefusal::BadField(FieldName::Rtt))?;
-    if is_symmetric(count, trips.as_slice()) && has_zero_diagonal(count, trips.as_slice()) {
-        Ok(Times::new(trips))
-    } else {
-        Err(PlanRefusal::BadField(FieldName::Rtt))
-    }
+    even_trips(alloc, count, field).map_err(|unread| unread.because(PlanRefusal::BadField(
+        FieldName::Rtt,
+    )))
 }
 
 fn latencies(alloc: Global, count: usize, value: &Value) -> Result<Times, PlanRefusal>
@@ -73,8 +103,10 @@ fn latencies(alloc: Global, count: usize, value: &Value) -> Result<Times, PlanRe
     let field = value
         .get("latency")
         .ok_or(PlanRefusal::BadField(FieldName::Latency))?;
-    let latencies = row(alloc, count, field)?.ok_or(PlanRefusal::BadField(FieldName::Latency))?;
-    Ok(Times::new(latencies))
+    match read_row(alloc, count, field) {
+        Ok(latencies) => Ok(Times::new(latencies)),
+        Err(unread) => Err(unread.because(PlanRefusal::BadField(FieldName::Latency))),
+    }
 }
 
 fn offsets(alloc: Global, count: usize, value: &Value) -> Result<GivenOffsets, PlanRefusal>
@@ -84,8 +116,10 @@ fn offsets(alloc: Global, count: usize, value: &Value) -> Result<GivenOffsets, P
     let field = value
         .get("offset")
         .ok_or(PlanRefusal::BadField(FieldName::Offset))?;
-    let offsets = square(alloc, count, field)?.ok_or(PlanRefusal::BadField(FieldName::Offset))?;
-    Ok(GivenOffsets::new(offsets))
+    match read_square(alloc, count, field) {
+        Ok(offsets) => Ok(GivenOffsets::new(offsets)),
+        Err(unread) => Err(unread.because(PlanRefusal::BadField(FieldName::Offset))),
+    }
 }
 
 fn pair(alloc: Global, count: usize, value: &Value) -> Result<Times, PlanRefusal>
@@ -95,8 +129,10 @@ fn pair(alloc: Global, count: usize, value: &Value) -> Result<Times, PlanRefusal
     let field = value
         .get("pair")
         .ok_or(PlanRefusal::BadField(FieldName::Pair))?;
-    let pair = row(alloc, count, field)?.ok_or(PlanRefusal::BadField(FieldName::Pair))?;
-    Ok(Times::new(pair))
+    match read_row(alloc, count, field) {
+        Ok(pair) => Ok(Times::new(pair)),
+        Err(unread) => Err(unread.because(PlanRefusal::BadField(FieldName::Pair))),
+    }
 }
 
 fn total(value: &Value) -> Result<u64, PlanRefusal>
@@ -109,7 +145,7 @@ fn total(value: &Value) -> Result<u64, PlanRefusal>
 }
 
 /// The fields of a plan's text, or the first that hasn't its form.
-#[tactic(auto, using(crate::proofs::FieldForms::few_names), unfolding(crate::specs::Reading::fields_at))]
+#[tactic(auto, unfolding(crate::specs::Reading::fields_at))]
 pub(crate) fn plan_fields(alloc: Global, value: &Value) -> Result<PlanFields, PlanRefusal>
     ensures exact { Gives PlanRefusal.NoMemory result (fields_at (view value.now)) }
     ensures forms { IfOk result HaveForms }

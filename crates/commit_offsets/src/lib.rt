@@ -4,7 +4,6 @@
 
 mod data;
 mod fields;
-mod forms;
 mod offsets;
 mod printing;
 mod reading;
@@ -15,6 +14,3 @@ pub use offsets::offset;
 pub use printing::print_plan;
 pub use reading::{plan_from_value, read_plan};
 pub use refusal::{FieldName, PlanRefusal};
-
-#[cfg(test)]
-mod tests;

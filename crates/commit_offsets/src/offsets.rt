@@ -7,13 +7,11 @@ use helios_model::{Plan, SiteId};
 
 /// The offset from one site to another, in half microseconds: 0 from a site to itself, else the first one's latency
 /// less the round trip.
-#[tactic(auto, using(helios_model::proofs::PlanLimits::trip_bounded, helios_model::proofs::PlanLimits::latency_bounded))]
 pub fn offset(plan: &Plan, i: SiteId, j: SiteId) -> i64
     requires row { i < count_of plan.now }
     requires column { j < count_of plan.now }
     ensures { result ≡ planned_offset plan.now i j }
 {
-    let _count = plan.count();
     if i == j {
         return 0;
     }
@@ -27,24 +25,13 @@ fn differs_at(plan: &Plan, offsets: &[i64], place: usize) -> bool
     ensures { result ≡ is_other_at plan.now offsets.now place }
 {
     let count = plan.count() as usize;
-    offsets[place]
-        != offset(
-            plan,
-            SiteId::of((place / count) as u8),
-            SiteId::of((place % count) as u8),
-        )
+    offsets[place] != offset(plan, plan.site(place / count), plan.site(place % count))
 }
 
 /// The first place, in row order, where what is given isn't the plan's offset.
-#[tactic(auto, using(crate::proofs::Differences::found, crate::proofs::Differences::nowhere))]
 pub(crate) fn first_other(plan: &Plan, offsets: &[i64]) -> Option<usize>
     requires { length offsets.now ≡ count_of plan.now * count_of plan.now }
     ensures { result ≡ other_offset plan.now offsets.now }
 {
-    for place in 0..offsets.len() {
-        if differs_at(plan, offsets, place) {
-            return Some(place);
-        }
-    }
-    None
+    (0..offsets.len()).find(|place| differs_at(plan, offsets, *place))
 }

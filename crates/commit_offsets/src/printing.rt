@@ -1,15 +1,12 @@
-ghost use Rattle.std.specs.Prelude.{◌≡◌, ◌≤◌, [], ◌∷◌, ◌++◌, false, All, IfOk, length};
-ghost use Rattle.helios_model.specs.Plans.{count_of};
-ghost use Rattle.json_text.specs.Text.{json_of};
-ghost use Rattle.serde_json.specs.Data.{depth};
+ghost use Rattle.std.specs.Prelude.{◌≡◌, ◌≤◌, All, IfOk, length};
+ghost use Rattle.helios_model.specs.Plans.{IsPlan, count_of};
 ghost use Rattle.serde_json.specs.View.{view};
-ghost use Rattle.serde_json.specs.Written.{compact_text, has_float};
 ghost use Rattle.commit_offsets.specs.Printing.{members_data, plan_data, plan_text, whole};
 ghost use Rattle.commit_offsets.specs.Reading.{plan_of_text};
 
-use crate::reading::sum_of;
 use crate::values::{names, numbers, offsets, sites, trips};
-use helios_model::{Bytes, Certificate, Plan};
+use helios_model::{Bytes, Certificate, Plan, each_matrix_passes, each_search_finds_first};
+use json_text::line_of;
 use serde_json::{Value, json};
 use std::alloc::{AllocError, Global};
 
@@ -36,28 +33,17 @@ fn members(
     })
 }
 
-#[tactic(auto, using(helios_model::proofs::PlanLimits::latencies_fit))]
 fn plan_value(alloc: Global, plan: &Plan, certificate: &Certificate) -> Result<Value, AllocError>
-    ensures { IfOk result (λ v. view v ≡ plan_data plan.now certificate.now.pair) }
+    ensures value { IfOk result (λ v. view v ≡ plan_data plan.now certificate.now.pair) }
+    ensures limits { IfOk result (λ _. IsPlan plan.now.names plan.now.trips plan.now.latencies) }
 {
-    let _count = plan.count();
     let latency = numbers(alloc, plan.latencies().items())?;
     let names = names(alloc, plan.names().items())?;
     let offset = offsets(alloc, plan)?;
     let pair = sites(alloc, certificate.pair.items())?;
     let rtt = trips(alloc, plan)?;
-    let total = sum_of(plan.latencies().items());
+    let total = plan.total();
     members(alloc, latency, names, offset, pair, rtt, total)
-}
-
-// The text of a value without blanks, and a line feed.
-fn line_of(alloc: Global, value: &Value) -> Result<Bytes, AllocError>
-    ensures text { IfOk result (λ text. has_float (view value.now) ≡ false → text ≡ compact_text (view value.now) ++ 10 ∷ []) }
-    ensures reads_back { IfOk result (λ text. depth (view value.now) ≤ 127 → json_of text ≡ Some (view value.now)) }
-{
-    let mut text = value.to_string(alloc)?;
-    text.push('\n')?;
-    Ok(Bytes::new(text.into_bytes()))
 }
 
 /// The text of a plan and its certificate: JSON without blanks, the members in the order of their names, and a line
@@ -72,7 +58,8 @@ pub fn print_plan(
     ensures reads_back { IfOk result (λ text. length certificate.now.pair ≡ count_of plan.now
         → All (λ partner. partner ≤ 31) certificate.now.pair → plan_of_text text ≡ Ok (plan.now, certificate.now)) }
 {
-    let _count = plan.count();
+    each_matrix_passes();
+    each_search_finds_first();
     let value = plan_value(alloc, plan, certificate)?;
     line_of(alloc, &value)
 }

@@ -9,15 +9,12 @@ use crate::data::PlanFields;
 use crate::fields::plan_fields;
 use crate::offsets::first_other;
 use crate::refusal::{FieldName, PlanRefusal};
-use helios_model::{Certificate, Places, Plan};
+use helios_model::{Certificate, GREATEST_LATENCY, LONGEST_TRIP, Places, Plan};
 use json_text::value_of;
 use serde_json::Value;
 use std::alloc::{AllocError, Global};
 
-const LONGEST_TRIP: u64 = 1_000_000_000;
-
-const GREATEST_LATENCY: u64 = 2_000_000_000;
-
+/// The greatest number of a site.
 const LAST_SITE: u64 = 31;
 
 fn all_at_most(numbers: &[u64], limit: u64) -> bool
@@ -63,25 +60,16 @@ fn same_offsets(plan: &Plan, offsets: &[i64]) -> Result<(), PlanRefusal>
 }
 
 // Whether the total is the sum of the latencies.
-#[tactic(auto, using(helios_model::proofs::PlanLimits::latencies_fit))]
 fn same_total(plan: &Plan, given: u64) -> Result<(), PlanRefusal>
     ensures { Gives PlanRefusal.NoMemory result
         (demand (PlanRefusal.TotalDiffers given (sum plan.now.latencies)) (given == sum plan.now.latencies)) }
 {
-    let _count = plan.count();
-    let sum = sum_of(plan.latencies().items());
+    let sum = plan.total();
     if given == sum {
         Ok(())
     } else {
         Err(PlanRefusal::TotalDiffers { given, sum })
     }
-}
-
-pub(crate) fn sum_of(latencies: &[u64]) -> u64
-    requires { sum latencies.now < 2 ^ 64 }
-    ensures { result ≡ sum latencies.now }
-{
-    latencies.iter().sum()
 }
 
 // The plan and the certificate of fields whose numbers agree.

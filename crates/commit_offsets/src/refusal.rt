@@ -2,6 +2,7 @@ ghost use Rattle.std.specs.Prelude.{◌≡◌, Some};
 ghost use Rattle.commit_offsets.specs.declared.refusal.PlanRefusal.TheVariants.{NoMemory};
 ghost use Rattle.commit_offsets.specs.Lines.{field_text, refusal_text};
 
+use json_text::Refusal;
 use std::alloc::{AllocError, AllocFailed};
 use std::fmt;
 
@@ -63,6 +64,14 @@ impl fmt::Display for PlanRefusal {
             PlanRefusal::TotalDiffers { given, sum } => write!(f, "total-differs {given} {sum}"),
             PlanRefusal::NoMemory => write!(f, "no-memory"),
         }
+    }
+}
+
+impl Refusal for PlanRefusal {
+    ghost memory = { NoMemory };
+
+    fn no_memory() -> PlanRefusal {
+        PlanRefusal::NoMemory
     }
 }
 

@@ -2,6 +2,13 @@ pub mod Slices
 pub mod Offsets
 pub mod LawProofs
 pub mod PlanLimits
+pub mod EvenSquares
+pub mod GoodNames
+pub mod PassedTests
+pub mod ShortPairs
+pub mod Permutations
+pub mod Sums
+pub mod Optimality
 pub mod FirstBelow
 pub mod Overlaps
 pub mod SpellingLaws

@@ -5,8 +5,13 @@ pub mod Spellings
 pub mod Transactions
 pub mod Spellable
 pub mod Plans
+pub mod Squares
+pub mod Naming
+pub mod Passing
 pub mod Offset
 pub mod Optimal
+pub mod Short
+pub mod Pairings
 pub mod Log
 pub mod Node
 pub mod Settle

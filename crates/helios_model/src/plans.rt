@@ -1,5 +1,6 @@
 //! Names of sites, matrices of round trips, and plans with their certificates.
-ghost use Rattle.std.specs.Prelude.{◌≡◌, ℕ, List, IfOk, string_bytes, ◌<◌, ◌≤◌, ◌*◌, [], length, slice_index_or};
+ghost use Rattle.std.specs.Prelude.{◌≡◌, ℕ, List, IfOk, string_bytes, ◌<◌, ◌≤◌, ◌*◌, [], length, slice_index_or, sum, ◌^◌};
+ghost use Rattle.helios_model.specs.Limits.{longest_trip, greatest_latency};
 ghost use Rattle.helios_model.specs.Plans.{IsMatrix, IsPlan, count_of, trip_at, rtt, latency};
 
 use crate::ids::SiteId;
@@ -118,18 +119,30 @@ impl Matrix {
         self.names.items()[i.number() as usize].text()
     }
 
+    /// The site at a place of the names.
+    pub fn site(&self, place: usize) -> SiteId
+        requires { place < length self.now.names }
+        ensures { result ≡ place }
+    {
+        prove!(place < self.names.items().len());
+        SiteId::of(place as u8)
+    }
+
     /// The round trip between two sites, in microseconds.
+    #[tactic(auto, using(crate::proofs::PlanLimits::short_at))]
     pub fn rtt(&self, i: SiteId, j: SiteId) -> u64
         requires row { i < length self.now.names }
         requires column { j < length self.now.names }
-        ensures { result ≡ trip_at (length self.now.names) self.now.trips i j }
+        ensures value { result ≡ trip_at (length self.now.names) self.now.trips i j }
+        ensures bounded { result ≤ longest_trip }
     {
         let count = self.names.items().len();
         self.rtt.items()[i.number() as usize * count + j.number() as usize]
     }
 
     pub fn names(&self) -> &Names
-        ensures { result.now ≡ self.now.names }
+        ensures value { result.now ≡ self.now.names }
+        ensures limits { IsMatrix self.now.names self.now.trips }
     {
         &self.names
     }
@@ -140,6 +153,13 @@ impl Matrix {
     {
         &self.rtt
     }
+}
+
+fn sum_of(numbers: &[u64]) -> u64
+    requires { sum numbers.now < 2 ^ 64 }
+    ensures { result ≡ sum numbers.now }
+{
+    numbers.iter().sum()
 }
 
 /// A matrix with the commit latency of each site, in half microseconds, none over 2,000,000,000.
@@ -187,26 +207,47 @@ impl Plan {
         self.names.items()[i.number() as usize].text()
     }
 
+    /// The site at a place of the names.
+    pub fn site(&self, place: usize) -> SiteId
+        requires { place < count_of self.now }
+        ensures { result ≡ place }
+    {
+        prove!(place < self.names.items().len());
+        SiteId::of(place as u8)
+    }
+
     /// The round trip between two sites, in microseconds.
+    #[tactic(auto, using(crate::proofs::PlanLimits::trip_bounded))]
     pub fn rtt(&self, i: SiteId, j: SiteId) -> u64
         requires row { i < count_of self.now }
         requires column { j < count_of self.now }
-        ensures { result ≡ rtt self.now i j }
+        ensures value { result ≡ rtt self.now i j }
+        ensures bounded { result ≤ longest_trip }
     {
         let count = self.names.items().len();
         self.rtt.items()[i.number() as usize * count + j.number() as usize]
     }
 
     /// The commit latency of a site, in half microseconds.
+    #[tactic(auto, using(crate::proofs::PlanLimits::latency_bounded))]
     pub fn latency(&self, i: SiteId) -> u64
         requires { i < count_of self.now }
-        ensures { result ≡ latency self.now i }
+        ensures value { result ≡ latency self.now i }
+        ensures bounded { result ≤ greatest_latency }
     {
         self.latency.items()[i.number() as usize]
     }
 
+    /// The commit latencies added up, in half microseconds.
+    pub fn total(&self) -> u64
+        ensures { result ≡ sum self.now.latencies }
+    {
+        sum_of(self.latency.items())
+    }
+
     pub fn names(&self) -> &Names
-        ensures { result.now ≡ self.now.names }
+        ensures value { result.now ≡ self.now.names }
+        ensures limits { IsPlan self.now.names self.now.trips self.now.latencies }
     {
         &self.names
     }

@@ -1,5 +1,5 @@
 -- What a text says as a schedule can be replayed.
-use Rattle.std.proofs.Common.{◌≡◌, ℕ, ◌≤◌, ◌&&◌, Bool, true, false, List, [], ◌∷◌, ◌==◌, length, nat_lt, nat_le, Option, Some, None, option_map, option_and_then, All, IsTrue, if◌then◌else◌, refl, ap, subst, arith, codes}
+use Rattle.std.proofs.Common.{◌≡◌, ℕ, suc, ◌∙◌, ◌≤◌, ◌&&◌, Bool, true, false, List, [], ◌∷◌, ◌==◌, length, nat_lt, nat_le, Option, Some, None, option_map, option_and_then, All, IsTrue, if◌then◌else◌, refl, ap, subst, arith, codes}
 use Rattle.std.proofs.lemmas.Bool.{and_parts, leb-true}
 use Rattle.std.proofs.lemmas.List.Elements.{All-cons, All-nil}
 use Rattle.std.specs.List.{before_first, after_first}
@@ -21,12 +21,15 @@ use Rattle.schedule_replay.specs.declared.schedule.Schedule.{Schedule}
 use Rattle.schedule_replay.specs.declared.steps.Step.{Step}
 use Rattle.schedule_replay.specs.declared.steps.Step.TheVariants.{Batch}
 use Rattle.schedule_replay.specs.Replayable.{IsGiven, IsPlannedInput, IsPlannedStep, IsReplayable, IsVersionText, most_steps}
-use Rattle.helios_top.specs.Json.{only}
+use Rattle.json_text.specs.Members.{array_member, number_member, only_at, pair_at}
 use Rattle.helios_top.specs.Reading.{is_one_site_plan, one_site, plan_at, schedule_at, schedule_of}
-use Rattle.helios_top.specs.Spelling.{id_from, id_of, is_at, key_at, number_of, version_at, version_of}
-use Rattle.json_text.specs.Arrays.{each_of, whole_number}
+use Rattle.helios_model.specs.Spellings.{IsIdText, id_from, id_of, is_at, number_of, version_of}
+use Rattle.json_text.specs.Spelled.{key_at, version_at}
+use Rattle.json_text.specs.Lists.{each_of, parts_of}
+use Rattle.json_text.specs.Transactions.{differing, keyed_of, put_at}
+use Rattle.serde_json.specs.Events.{items_len}
 use Rattle.json_text.specs.Text.{json_of}
-use Rattle.helios_top.specs.Stepping.{asked_at, batch_at, is_other_input, is_other_step, put_at, puts_of, read_at, read_of, reads_of, request_at, site_of, step_at, steps_of, within_puts, within_reads, within_steps}
+use Rattle.helios_top.specs.Stepping.{asked_at, batch_at, is_other_input, is_other_step, puts_of, read_at, reads_of, request_at, site_of, step_at, steps_of}
 use Rattle.helios_top.proofs.OneSite.{one_site_is_accepted}
 
 -- a value that comes of another that is there
@@ -45,6 +48,10 @@ some_injective x y e = cc
 guard_some : {A : Type 0} (b : Bool) (x y : A) → (if b then Some x else None) ≡ Some y → (b ≡ true) × (x ≡ y)
 guard_some true x y e = (refl, cc)
 guard_some false x y e = cc
+
+chosen_some : {A : Type 0} (b : Bool) (o : Option A) (y : A) → (if b then o else None) ≡ Some y → (b ≡ true) × (o ≡ Some y)
+chosen_some true o y e = (refl, e)
+chosen_some false o y e = cc
 
 unless_some : {A : Type 0} (b : Bool) (o : Option A) (y : A) → (if b then None else o) ≡ Some y → o ≡ Some y
 unless_some true o y e = cc
@@ -88,59 +95,69 @@ version_limits d v e = let text = bind_some (as_str d) version_of v e in initial
 
 -- ---- requests
 
-read_of_given : (items : Items) (r : PlannedRead) → read_of items ≡ Some r → IsGiven r.version
-read_of_given no_items r e = cc
-read_of_given (item key no_items) r e = cc
-read_of_given (item key (item version no_items)) r e =
-    let k = bind_some (key_at key) (λ (key : List ℕ). option_map (λ (v : Version). record { key = key; version = At v }) (version_at version)) r e in
-    let v = map_some (version_at version) (λ (v : Version). record { key = k.0; version = At v }) r k.1.1 in
-    subst (λ (read : PlannedRead). IsGiven read.version) v.1.1 (version_limits version v.0 v.1.0)
-read_of_given (item key (item version (item other ds))) r e = cc
-
 read_given : (d : Data) (r : PlannedRead) → read_at d ≡ Some r → IsGiven r.version
 unfolding read_at
-read_given d r e = let items = bind_some (as_array d) read_of r e in read_of_given items.0 r items.1.1
+read_given d r e =
+    let pair = bind_some (pair_at d) (λ (p : Data × Data). option_and_then (λ (k : List ℕ). option_and_then (λ (v : Version). Some (record { key = k; version = At v })) (version_at p.1)) (key_at p.0)) r e in
+    let key = bind_some (key_at pair.0.0) (λ (k : List ℕ). option_and_then (λ (v : Version). Some (record { key = k; version = At v })) (version_at pair.0.1)) r pair.1.1 in
+    let version = bind_some (version_at pair.0.1) (λ (v : Version). Some (record { key = key.0; version = At v })) r key.1.1 in
+    let made : PlannedRead = record { key = key.0; version = At version.0 } in
+    subst (λ (read : PlannedRead). IsGiven read.version) (some_injective made r version.1.1) (version_limits pair.0.1 version.0 version.1.0)
 
-pub record AreReads (reads : List PlannedRead) : Type 0 where
-  pub few : length reads ≤ most_items
-  pub differ : IsTrue (all_differ (λ r. r.key) reads)
-  pub given : All (λ r. IsGiven r.version) reads
+-- the items of a list of distinct keys, each as it is said
+pub record AreKeyed {T : Type 0} (key : T → List ℕ) (P : T → Type 0) (items : List T) : Type 0 where
+  pub few : length items ≤ most_items
+  pub differ : IsTrue (all_differ key items)
+  pub each : All P items
 
-reads_limits : (items : Items) (reads : List PlannedRead) → reads_of items ≡ Some reads → AreReads reads
-unfolding reads_of within_reads
-reads_limits items reads e =
-    let found = bind_some (each_of read_at items) within_reads reads e in
-    let within = guard_some (nat_le (length found.0) most_items && all_differ (λ r. r.key) found.0) found.0 reads found.1.1 in
-    let parts = and_parts (nat_le (length found.0) most_items) (all_differ (λ r. r.key) found.0) within.0 in
-    subst AreReads within.1 (record {
-      few = leb-true (length found.0) most_items parts.0;
-      differ = parts.1;
-      given = each_of_all read_at (λ r. IsGiven r.version) read_given items found.0 found.1.0;
-    })
+-- how many items an array has that was read
+each_of_count : {T : Type 0} (said : Data → Option T) (items : Items) (xs : List T) → each_of said items ≡ Some xs → items_len items ≡ length xs
+each_of_count said no_items xs e = let same : [] ≡ xs = cc in ap length same
+each_of_count said (item d ds) xs e =
+    let first = bind_some (said d) (λ x. option_map (λ rest. x ∷ rest) (each_of said ds)) xs e in
+    let rest = map_some (each_of said ds) (λ rest. first.0 ∷ rest) xs first.1.1 in
+    ap suc (each_of_count said ds rest.0 rest.1.0) ∙ ap length rest.1.1
 
-pub record ArePuts (puts : List PutItem) : Type 0 where
-  pub few : length puts ≤ most_items
-  pub differ : IsTrue (all_differ (λ p. p.key) puts)
+pub record AreParts {T : Type 0} (most : ℕ) (P : T → Type 0) (items : List T) : Type 0 where
+  pub few : length items ≤ most
+  pub each : All P items
 
-puts_limits : (items : Items) (puts : List PutItem) → puts_of items ≡ Some puts → ArePuts puts
-unfolding puts_of within_puts
-puts_limits items puts e =
-    let found = bind_some (each_of put_at items) within_puts puts e in
-    let within = guard_some (nat_le (length found.0) most_items && all_differ (λ p. p.key) found.0) found.0 puts found.1.1 in
-    let parts = and_parts (nat_le (length found.0) most_items) (all_differ (λ p. p.key) found.0) within.0 in
-    subst ArePuts within.1 (record { few = leb-true (length found.0) most_items parts.0; differ = parts.1 })
+parts_limits : {T : Type 0} (most : ℕ) (said : Data → Option T) (P : T → Type 0) → ((d : Data) (x : T) → said d ≡ Some x → P x)
+    → (items : Items) (xs : List T) → parts_of most said items ≡ Some xs → AreParts most P xs
+unfolding parts_of
+parts_limits most said P holds items xs e =
+    let within = chosen_some (nat_le (items_len items) most) (each_of said items) xs e in
+    let count : items_len items ≡ length xs = each_of_count said items xs within.1 in
+    record { few = subst (λ (n : ℕ). n ≤ most) count (leb-true (items_len items) most within.0); each = each_of_all said P holds items xs within.1 }
+
+keyed_limits : {T : Type 0} (key : T → List ℕ) (said : Data → Option T) (P : T → Type 0) → ((d : Data) (x : T) → said d ≡ Some x → P x)
+    → (items : Items) (xs : List T) → keyed_of key said items ≡ Some xs → AreKeyed key P xs
+unfolding keyed_of
+keyed_limits key said P holds items xs e =
+    let found = bind_some (parts_of most_items said items) (differing key) xs e in
+    let differ = guard_some (all_differ key found.0) found.0 xs found.1.1 in
+    let parts = parts_limits most_items said P holds items found.0 found.1.0 in
+    subst (AreKeyed key P) differ.1 (record { few = parts.few; differ = differ.0; each = parts.each })
+
+reads_limits : (items : Items) (reads : List PlannedRead) → reads_of items ≡ Some reads → AreKeyed (λ r. r.key) (λ r. IsGiven r.version) reads
+unfolding reads_of
+reads_limits items reads e = keyed_limits (λ r. r.key) read_at (λ r. IsGiven r.version) read_given items reads e
+
+puts_limits : (items : Items) (puts : List PutItem) → puts_of items ≡ Some puts → AreKeyed (λ p. p.key) (λ p. Unit {0}) puts
+unfolding puts_of
+puts_limits items puts e = keyed_limits (λ p. p.key) put_at (λ p. Unit {0}) (λ d p said. tt) items puts e
 
 asked_limits : (d : Data) (p : Planned) → asked_at d ≡ Some p → IsPlannedInput p
 unfolding asked_at
 asked_limits d p e =
-    let said_reads = option_and_then reads_of (option_and_then as_array (get (codes "reads") d)) in
-    let said_puts = option_and_then puts_of (option_and_then as_array (get (codes "writes") d)) in
-    let time = bind_some (option_and_then whole_number (get (codes "at") d))
+    let said_reads = option_and_then reads_of (array_member (codes "reads") d) in
+    let said_puts = option_and_then puts_of (array_member (codes "writes") d) in
+    let time = bind_some (number_member (codes "at") d)
     (λ (t : ℕ). option_and_then (λ (rs : List PlannedRead). option_and_then (λ (ps : List PutItem). Some (Request t rs ps)) said_puts) said_reads) p e in
     let reads = bind_some said_reads (λ (rs : List PlannedRead). option_and_then (λ (ps : List PutItem). Some (Request time.0 rs ps)) said_puts) p time.1.1 in
     let puts = bind_some said_puts (λ (ps : List PutItem). Some (Request time.0 reads.0 ps)) p reads.1.1 in
-    let in_reads = bind_some (option_and_then as_array (get (codes "reads") d)) reads_of reads.0 reads.1.0 in
-    let in_puts = bind_some (option_and_then as_array (get (codes "writes") d)) puts_of puts.0 puts.1.0 in
+    let in_reads = bind_some (array_member (codes "reads") d) reads_of reads.0 reads.1.0 in
+    let in_puts = bind_some (array_member (codes "writes") d) puts_of puts.0 puts.1.0 in
     let of_reads = reads_limits in_reads.0 reads.0 in_reads.1.1 in
     let of_puts = puts_limits in_puts.0 puts.0 in_puts.1.1 in
     let same : Request time.0 reads.0 puts.0 ≡ p = some_injective (Request time.0 reads.0 puts.0) p puts.1.1 in
@@ -149,7 +166,7 @@ asked_limits d p e =
       few_puts = of_puts.few;
       reads_differ = of_reads.differ;
       puts_differ = of_puts.differ;
-      given = of_reads.given;
+      given = of_reads.each;
     })
 
 request_limits : (d : Data) (p : Planned) → request_at d ≡ Some p → IsPlannedInput p
@@ -165,12 +182,12 @@ site_is_first n site e = (guard_some (n == 0) 0 site e).1
 batch_limits : (d : Data) (s : Step) → batch_at d ≡ Some s → IsPlannedStep one_site s
 unfolding batch_at
 batch_limits d s e =
-    let said_request = option_and_then request_at (only (get (codes "inputs") d)) in
-    let site = bind_some (option_and_then site_of (option_and_then whole_number (get (codes "site") d)))
+    let said_request = option_and_then request_at (option_and_then only_at (get (codes "inputs") d)) in
+    let site = bind_some (option_and_then site_of (number_member (codes "site") d))
     (λ (n : ℕ). option_and_then (λ (p : Planned). Some (Batch n (p ∷ []))) said_request) s e in
     let request = bind_some said_request (λ (p : Planned). Some (Batch site.0 (p ∷ []))) s site.1.1 in
-    let number = bind_some (option_and_then whole_number (get (codes "site") d)) site_of site.0 site.1.0 in
-    let asked = bind_some (only (get (codes "inputs") d)) request_at request.0 request.1.0 in
+    let number = bind_some (number_member (codes "site") d) site_of site.0 site.1.0 in
+    let asked = bind_some (option_and_then only_at (get (codes "inputs") d)) request_at request.0 request.1.0 in
     let first : 0 ≡ site.0 = site_is_first number.0 site.0 number.1.1 in
     let same : Batch site.0 (request.0 ∷ []) ≡ s = some_injective (Batch site.0 (request.0 ∷ [])) s request.1.1 in
     subst (IsPlannedStep one_site) same (record {
@@ -183,19 +200,9 @@ step_limits : (d : Data) (s : Step) → step_at d ≡ Some s → IsPlannedStep o
 unfolding step_at
 step_limits d s e = batch_limits d s (unless_some (is_other_step d) _ s e)
 
-pub record AreSteps (steps : List Step) : Type 0 where
-  pub few : length steps ≤ most_steps
-  pub each : All (IsPlannedStep one_site) steps
-
-steps_limits : (items : Items) (steps : List Step) → steps_of items ≡ Some steps → AreSteps steps
-unfolding steps_of within_steps
-steps_limits items steps e =
-    let found = bind_some (each_of step_at items) within_steps steps e in
-    let within = guard_some (nat_le (length found.0) most_steps) found.0 steps found.1.1 in
-    subst AreSteps within.1 (record {
-      few = leb-true (length found.0) most_steps within.0;
-      each = each_of_all step_at (IsPlannedStep one_site) step_limits items found.0 found.1.0;
-    })
+steps_limits : (items : Items) (steps : List Step) → steps_of items ≡ Some steps → AreParts most_steps (IsPlannedStep one_site) steps
+unfolding steps_of
+steps_limits items steps e = parts_limits most_steps step_at (IsPlannedStep one_site) step_limits items steps e
 
 plan_is_one_site : (d : Data) (plan : PlanData) → plan_at d ≡ Some plan → one_site ≡ plan
 unfolding plan_at
@@ -204,12 +211,12 @@ plan_is_one_site d plan e = (guard_some (is_one_site_plan d) one_site plan e).1
 schedule_limits : (d : Data) (s : Schedule) → schedule_at d ≡ Some s → IsReplayable s.plan s.steps
 unfolding schedule_at
 schedule_limits d s e =
-    let said_steps = option_and_then steps_of (option_and_then as_array (get (codes "steps") d)) in
+    let said_steps = option_and_then steps_of (array_member (codes "steps") d) in
     let plan = bind_some (option_and_then plan_at (get (codes "plan") d))
     (λ (p : PlanData). option_and_then (λ (ss : List Step). Some (record { plan = p; steps = ss })) said_steps) s e in
     let steps = bind_some said_steps (λ (ss : List Step). Some (record { plan = plan.0; steps = ss })) s plan.1.1 in
     let in_plan = bind_some (get (codes "plan") d) plan_at plan.0 plan.1.0 in
-    let in_steps = bind_some (option_and_then as_array (get (codes "steps") d)) steps_of steps.0 steps.1.0 in
+    let in_steps = bind_some (array_member (codes "steps") d) steps_of steps.0 steps.1.0 in
     let is : one_site ≡ plan.0 = plan_is_one_site in_plan.0 plan.0 in_plan.1.1 in
     let limits = steps_limits in_steps.0 steps.0 in_steps.1.1 in
     let made : Schedule = record { plan = plan.0; steps = steps.0 } in

@@ -1,13 +1,14 @@
 -- What a text says as a schedule that `replay` takes.
 use Rattle.std.specs.Prelude.{ℕ, Bool, false, ◌&&◌, ◌==◌, ℤ, pos, negsuc, List, [], ◌∷◌, Option, Some, None, option_and_then, codes, if◌then◌else◌}
 use Rattle.serde_json.specs.Data.{Data}
-use Rattle.serde_json.specs.Find.{as_array, as_i64, as_number, get}
+use Rattle.serde_json.specs.Find.{as_i64, as_number, get}
 use Rattle.helios_model.specs.Plans.{PlanData}
 use Rattle.schedule_replay.specs.declared.schedule.Schedule.{Schedule}
 use Rattle.helios_top.specs.Stepping.{steps_of}
 use Rattle.json_text.specs.Arrays.{whole_number}
 use Rattle.json_text.specs.Text.{json_of}
-use Rattle.helios_top.specs.Json.{◌>>=◌, is_text, only}
+use Rattle.json_text.specs.Members.{array_member, is_text, only_at}
+use Rattle.json_text.specs.Unread.{◌>>=◌}
 
 -- whether what was found is this number
 abbrev pub is_same_number : ℕ → Option ℕ → Bool
@@ -28,14 +29,19 @@ is_same_zero (Some (negsuc n)) = false
 abbrev pub is_signed_zero : Option Data → Bool
 is_signed_zero value = is_same_zero (option_and_then (λ d. option_and_then as_i64 (as_number d)) value)
 
+-- whether what was found is this text
+abbrev pub is_word : List ℕ → Option Data → Bool
+is_word word None = false
+is_word word (Some d) = is_text word d
+
 -- whether the value has, under the seven names of a plan, the values of the plan of the one site `A`
 unfoldable pub is_one_site_plan : Data → Bool
 is_one_site_plan d =
-    is_number 0 (only (get (codes "latency") d))
-    && is_text (codes "A") (only (get (codes "names") d))
-    && is_signed_zero (only (only (get (codes "offset") d)))
-    && is_number 0 (only (get (codes "pair") d))
-    && is_number 0 (only (only (get (codes "rtt") d)))
+    is_number 0 (get (codes "latency") d >>= only_at)
+    && is_word (codes "A") (get (codes "names") d >>= only_at)
+    && is_signed_zero (get (codes "offset") d >>= only_at >>= only_at)
+    && is_number 0 (get (codes "pair") d >>= only_at)
+    && is_number 0 (get (codes "rtt") d >>= only_at >>= only_at)
     && is_number 0 (get (codes "total") d)
     && is_number 1 (get (codes "version") d)
 
@@ -51,7 +57,7 @@ plan_at d = if is_one_site_plan d then Some one_site else None
 unfoldable pub schedule_at : Data → Option Schedule
 schedule_at d = do
   plan ← get (codes "plan") d >>= plan_at
-  steps ← (get (codes "steps") d >>= as_array) >>= steps_of
+  steps ← array_member (codes "steps") d >>= steps_of
   Some (record { plan = plan; steps = steps })
 
 -- the schedule that a text says

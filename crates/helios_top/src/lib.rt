@@ -8,11 +8,9 @@
 
 mod check;
 mod ending;
-mod json;
 mod planning;
 mod reading;
 mod replay;
-mod spelling;
 mod steps;
 #[cfg(test)]
 mod tests;

@@ -4,10 +4,10 @@ ghost use Rattle.schedule_replay.specs.Replayable.{IsReplayable};
 ghost use Rattle.helios_top.specs.Answer.{IsReplayAnswer, report_for, world_of};
 ghost use Rattle.helios_top.specs.Reading.{schedule_of};
 
-use crate::json::Unread;
 use crate::reading::read_schedule;
 use crate::{Answer, Refusal};
 use helios_model::Bytes;
+use json_text::Unread;
 use schedule_replay::replay::replay;
 use schedule_replay::schedule::Schedule;
 use std::alloc::{AllocError, Global};
@@ -18,7 +18,7 @@ pub(crate) fn answer(alloc: Global, text: &[u8]) -> Result<Answer, AllocError>
 {
     match read_schedule(alloc, text) {
         Ok(schedule) => Ok(Answer::Printed(report(alloc, &schedule)?)),
-        Err(Unread::Unbuilt) => Ok(Answer::Refused(Refusal::Unbuilt)),
+        Err(Unread::OtherForm) => Ok(Answer::Refused(Refusal::Unbuilt)),
         Err(Unread::NoMemory) => Err(AllocError),
     }
 }

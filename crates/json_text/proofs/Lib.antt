@@ -6,3 +6,4 @@ pub mod NameForms
 pub mod RowSteps
 pub mod SpelledForms
 pub mod WholeText
+pub mod Counting

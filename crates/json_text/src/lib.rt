@@ -8,6 +8,7 @@ mod arrays;
 mod lists;
 mod members;
 mod names;
+mod names_read;
 mod refusals;
 mod rows;
 mod spelled;
@@ -18,6 +19,7 @@ pub use arrays::{numbers, row, square, texts};
 pub use lists::{ItemReader, PartReader, read_list, read_parts};
 pub use members::{array_member, has_member, is_text, number_member, only, pair, text_member};
 pub use names::is_name;
+pub use names_read::read_names;
 pub use refusals::{Refusal, Unread};
 pub use rows::{JsonNumber, read_row, read_square};
 pub use spelled::{

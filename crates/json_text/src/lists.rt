@@ -2,7 +2,7 @@
 ghost use Rattle.std.specs.Prelude.{◌≡◌, ℕ, List, Option, Result};
 ghost use Rattle.serde_json.specs.Data.{Data};
 ghost use Rattle.serde_json.specs.View.{view, items_view};
-ghost use Rattle.json_text.specs.Lists.{items_from, list_of, parts_of};
+ghost use Rattle.json_text.specs.Lists.{list_of, parts_of};
 ghost use Rattle.json_text.specs.Reading.{Gives, GivesAs, required};
 ghost use Rattle.json_text.specs.Unread.{Reads, ReadsAs};
 ghost use Rattle.json_text.specs.declared.refusals.Unread.TheVariants.{OtherForm};
@@ -35,26 +35,8 @@ pub trait PartReader {
         ensures { Reads result (said self.now (view value.now)) };
 }
 
-#[tactic(auto, using(crate::proofs::ListReading::item_read, crate::proofs::ListReading::item_refused, crate::proofs::ListReading::items_end))]
-fn read_items<R: ItemReader>(
-    alloc: Global,
-    items: &[Value],
-    reader: &R,
-) -> Result<Vec<R::Item>, R::Error>
-    ensures { GivesAs (λ v. v.items) R.Error.memory result (items_from (R.said reader.now) 0 (items_view items.now)) }
-{
-    let mut found = Vec::new(alloc);
-    for (place, value) in items.iter().enumerate() {
-        let item = reader.read(alloc, place, value)?;
-        if found.push(item).is_err() {
-            return Err(R::Error::no_memory());
-        }
-    }
-    Ok(found)
-}
-
 /// The items in their order, or the first refusal. How many there are is tested before the first is read.
-#[tactic(auto, unfolding(crate::specs::Lists::list_of), using(crate::proofs::ListReading::few_items, crate::proofs::ListReading::many_items))]
+#[tactic(auto, using(crate::proofs::ListReading::item_read, crate::proofs::ListReading::item_refused, crate::proofs::ListReading::items_end, crate::proofs::ListReading::few_items, crate::proofs::ListReading::many_items))]
 pub fn read_list<R: ItemReader>(
     alloc: Global,
     items: &[Value],
@@ -67,7 +49,14 @@ pub fn read_list<R: ItemReader>(
     if items.len() > most {
         return Err(too_many);
     }
-    read_items(alloc, items, reader)
+    let mut found = Vec::new(alloc);
+    for (place, value) in items.iter().enumerate() {
+        let item = reader.read(alloc, place, value)?;
+        if found.push(item).is_err() {
+            return Err(R::Error::no_memory());
+        }
+    }
+    Ok(found)
 }
 
 // The reader of parts as one of items, each of which is refused by its form alone.

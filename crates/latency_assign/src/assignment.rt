@@ -6,10 +6,8 @@ ghost use Rattle.latency_assign.specs.Assignment.{IsAssignment};
 use crate::ints::Ints;
 use crate::matching::match_row;
 use crate::potentials::Potentials;
-use helios_model::{Matrix, Places};
+use helios_model::{LONGEST_TRIP, Matrix, Places};
 use std::alloc::{AllocError, Global};
-
-const LONGEST_TRIP: u64 = 1_000_000_000;
 
 #[tactic(auto, using(crate::proofs::Results::one_number_more))]
 fn first_numbers(alloc: Global, count: u8) -> Result<Vec<u8>, AllocError>

@@ -3,15 +3,14 @@ ghost use Rattle.helios_model.specs.Limits.{longest_trip};
 ghost use Rattle.latency_assign.specs.Assignment.{count_of, distance};
 ghost use Rattle.latency_assign.specs.Search.{IsFeasible, IsNearest, IsExtended};
 
-use helios_model::{Matrix, SiteId};
+use helios_model::Matrix;
 
 fn trip(m: &Matrix, row: usize, column: u8) -> u64
     requires row { row < count_of m.now }
     requires column { column < count_of m.now }
     ensures { result ≡ distance m.now row column }
 {
-    let _count = m.count();
-    m.rtt(SiteId::of(row as u8), SiteId::of(column))
+    m.rtt(m.site(row), m.site(column as usize))
 }
 
 // What a row lacks to be tight with the column at a place.

@@ -10,6 +10,3 @@ pub mod potentials;
 mod shifts;
 
 pub use assignment::assign;
-
-#[cfg(test)]
-mod tests;

@@ -1,24 +1,21 @@
 -- Latencies that are the sums of potentials make an accepted plan, and the partners are its certificate.
-use Rattle.std.proofs.Common.{◌≡◌, ◌≢◌, ℕ, zero, suc, ◌+◌, ◌*◌, ◌<◌, ◌≤◌, List, length, map, get_or, refl, sym, ◌∙◌, ap, arith, add-one, ℤ, pos}
+use Rattle.std.proofs.Common.{◌≡◌, ℕ, zero, suc, ◌+◌, ◌<◌, ◌≤◌, List, length, map, get_or, refl, sym, ◌∙◌, ap, arith, add-one, ℤ, pos}
 use Rattle.std.specs.Prelude.{◌+ℤ◌, ◌≤ℤ◌, negsuc, All, sum}
-use Rattle.std.specs.List.{range_with_len}
 use Rattle.std.proofs.lemmas.Int.{ints}
 use Rattle.std.proofs.lemmas.List.{length-map, get_or-map}
 use Rattle.std.proofs.lemmas.List.Elements.{All-get_or, All-from_get_or}
-use Rattle.std.proofs.lemmas.List.FromFn.{length-range_with_len}
-use Rattle.std.proofs.lemmas.List.Sorted.{length_permutation}
-use Rattle.helios_model.specs.Optimal.{IsCertificate, pair_value, IsOptimal}
+use Rattle.helios_model.specs.Optimal.{IsCertificate, IsOptimal}
 use Rattle.helios_model.specs.Limits.{longest_trip, greatest_latency}
-use Rattle.helios_model.specs.Plans.{MatrixData, PlanData, IsMatrix, IsPlan, IsAccepted, rtt}
+use Rattle.helios_model.specs.Plans.{MatrixData, PlanData, IsMatrix, IsPlan, IsAccepted}
 use Rattle.latency_assign.specs.Assignment.{count_of, distance, potential, IsInRange, IsAssignment}
 use Rattle.latency_assign.specs.declared.potentials.Potentials.{Potentials}
 use Rattle.plan_certificate.specs.Judgement.{verdict_of}
 use Rattle.plan_certificate.specs.Planning.{AreSums, planned}
 use Rattle.plan_certificate.specs.declared.verdict.Verdict.TheVariants as verdicts
 use Rattle.plan_certificate.proofs.Judgements.{verdict_is}
-use Rattle.plan_certificate.proofs.Optimality.{partners_sum, certificate_shows_optimal}
-use Rattle.plan_certificate.proofs.Permutations.{below_from_permutation}
-use Rattle.plan_certificate.proofs.Sums.{sum_below, sum_below_more, sum_below-items}
+use Rattle.helios_model.specs.Pairings.{sum_below, sum_below_more, sum_below-items, IsPairing, CertificatesShowOptimal, PairingsAreOrders, PartnersAddUp}
+use Rattle.helios_model.specs.Passing.{EachSearchFindsFirst}
+use Rattle.helios_model.specs.Short.{EachShortPairIsFound}
 
 -- a sum of sums, term by term
 sum_below-split : (f g h : ℕ → ℕ) (n : ℕ) → ((i : ℕ) → i < n → f i ≡ g i + h i) → sum_below f n ≡ sum_below g n + sum_below h n
@@ -50,7 +47,7 @@ are_sums m p u v latencies assigned rows columns size sums =
       sums = λ i low. (sums i (omega arith) ∙ ap (λ xs. potential xs i +ℤ potential v i) rows ∙ ap (λ xs. potential p.u i +ℤ potential xs i) columns);
     }
 
-module _ (m : MatrixData) (p : Potentials) (latencies : List ℕ) (limits : IsMatrix m.names m.trips) (assigned : IsAssignment m p) (added : AreSums m p latencies) where
+module _ (orders : PairingsAreOrders) (add_up : PartnersAddUp) (m : MatrixData) (p : Potentials) (latencies : List ℕ) (limits : IsMatrix m.names m.trips) (assigned : IsAssignment m p) (added : AreSums m p latencies) where
   abbrev plan : PlanData
   plan = planned m latencies
 
@@ -98,12 +95,15 @@ module _ (m : MatrixData) (p : Potentials) (latencies : List ℕ) (limits : IsMa
       whole : (t a b : ℕ) (x y : ℤ) → x ≡ pos a → y ≡ pos b → pos t ≤ℤ (x +ℤ y) → t ≤ a + b
       whole t a b x y x_is y_is h = omega (arith, ints)
 
+  pairing : IsPairing (count_of m) p.s
+  pairing = (orders (count_of m) p.s).0 assigned.permutation
+
   partner : ℕ → ℕ
   partner i = get_or p.s i 0
 
   partner_low : (i : ℕ) → i < count_of m → partner i < count_of m
   unfolding partner
-  partner_low i low = below_from_permutation (count_of m) p.s assigned.permutation i low
+  partner_low i low = pairing.sites i low
 
   trip_tight : (i : ℕ) → i < count_of m → distance m i (partner i) ≡ row i + column (partner i)
   unfolding partner
@@ -166,25 +166,25 @@ module _ (m : MatrixData) (p : Potentials) (latencies : List ℕ) (limits : IsMa
       let at : get_or columns (get_or p.s i 0) 0 ≡ column (get_or p.s i 0) = column_at (get_or p.s i 0) (partner_low i low) in
       omega arith)) in
       let all : sum_below (λ i. get_or columns i 0) n ≡ sum columns = ap (sum_below (λ i. get_or columns i 0)) (sym columns_long) ∙ sum_below-items columns in
-      let partners : sum_below (λ i. get_or columns (get_or p.s i 0) 0) n ≡ sum columns = partners_sum n p.s columns columns_long assigned.permutation in
+      let partners : sum_below (λ i. get_or columns (get_or p.s i 0) 0) n ≡ sum columns = add_up n p.s columns pairing columns_long in
       record {
         pairing = assigned.permutation;
         value = (let same : sum latencies ≡ sum_below (λ i. distance m i (get_or p.s i 0)) n = omega arith in same);
       }
 
-  pub is_optimal : IsOptimal (planned m latencies)
-  is_optimal = certificate_shows_optimal plan p.s is_accepted is_certified
+  pub is_optimal : CertificatesShowOptimal → IsOptimal (planned m latencies)
+  is_optimal shows = shows plan p.s is_accepted is_certified
 
-  pub is_judged : verdict_of (planned m latencies) p.s ≡ verdicts.Optimal (sum latencies)
-  is_judged = sym (verdict_is plan p.s (verdicts.Optimal (sum latencies)) (length_permutation (range_with_len 0 (count_of m)) p.s assigned.permutation ∙ length-range_with_len 0 (count_of m)) (is_accepted, is_certified, refl))
+  pub is_judged : EachSearchFindsFirst → EachShortPairIsFound → verdict_of (planned m latencies) p.s ≡ verdicts.Optimal (sum latencies)
+  is_judged finds shorts = sym (verdict_is finds shorts orders plan p.s (verdicts.Optimal (sum latencies)) pairing.size (is_accepted, is_certified, refl))
 
   pub is_long : length p.s ≡ count_of m
-  is_long = length_permutation (range_with_len 0 (count_of m)) p.s assigned.permutation ∙ length-range_with_len 0 (count_of m)
+  is_long = pairing.size
 
   -- each partner is a site
   pub are_sites : All (λ partner. partner ≤ 31) p.s
   are_sites = All-from_get_or (λ partner. partner ≤ 31) p.s 0 (λ i within. (
       let low : i < count_of m = (let size : length p.s ≡ count_of m = is_long in omega arith) in
-      let below : get_or p.s i 0 < count_of m = below_from_permutation (count_of m) p.s assigned.permutation i low in
+      let below : get_or p.s i 0 < count_of m = pairing.sites i low in
       let few : count_of m ≤ 32 = limits.few in
       omega arith))

@@ -1,22 +1,11 @@
 -- The verdict on a plan and a pairing, as a function of them.
-use Rattle.std.specs.Prelude.{ℕ, ◌+◌, ◌*◌, ◌==◌, ◌&&◌, ◌||◌, Bool, nat_lt, nat_le, List, Option, Some, None, is_some, option_map, option_and_then, find, sum, slice_index, if◌then◌else◌}
+use Rattle.std.specs.Prelude.{ℕ, ◌==◌, ◌||◌, Bool, nat_le, List, Option, Some, None, find, sum, slice_index, if◌then◌else◌}
 use Rattle.std.specs.List.{list_any, range_with_len}
 use Rattle.helios_model.specs.Optimal.{pair_value, sites_of}
-use Rattle.helios_model.specs.Plans.{PlanData, count_of, rtt, latency}
+use Rattle.helios_model.specs.Plans.{PlanData, count_of}
+use Rattle.helios_model.specs.Short.{first_short_of}
 use Rattle.plan_certificate.specs.declared.verdict.Verdict.{Verdict}
 use Rattle.plan_certificate.specs.declared.verdict.Verdict.TheVariants.{Optimal, Short, NoPairing, ValueDiffers}
-
--- whether the second of two sites is the later one and they don't reach their round trip
-abbrev pub is_short : PlanData → ℕ → ℕ → Bool
-is_short plan i j = nat_lt i j && nat_lt (latency plan i + latency plan j) (2 * rtt plan i j)
-
--- the first later site that a site is short of
-abbrev pub short_of : PlanData → ℕ → Option ℕ
-short_of plan i = find (is_short plan i) (sites_of plan)
-
--- the first site that is short of a later one, and the first such
-abbrev pub first_short_of : PlanData → Option (ℕ × ℕ)
-first_short_of plan = option_and_then (λ i. option_map (λ j. (i, j)) (short_of plan i)) (find (λ i. is_some (short_of plan i)) (sites_of plan))
 
 -- whether the partner at a place is no site, or is that of an earlier place
 abbrev pub is_unpaired : ℕ → List ℕ → ℕ → Bool

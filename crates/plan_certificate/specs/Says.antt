@@ -2,7 +2,8 @@
 use Rattle.std.specs.Prelude.{◌≡◌, ◌≢◌, ℕ, List, length, sum}
 use Rattle.helios_model.specs.Optimal.{IsCertificate, pair_value}
 use Rattle.helios_model.specs.Plans.{PlanData, IsAccepted, count_of}
-use Rattle.plan_certificate.specs.Verdict.{IsFirstShort, IsFirstUnpaired, ArePaired}
+use Rattle.helios_model.specs.Short.{IsFirstShort}
+use Rattle.plan_certificate.specs.Verdict.{IsFirstUnpaired, ArePaired}
 use Rattle.plan_certificate.specs.declared.verdict.Verdict.{Verdict}
 use Rattle.plan_certificate.specs.declared.verdict.Verdict.TheVariants as verdicts
 

@@ -1,4 +1,4 @@
-ghost use Rattle.std.specs.Prelude.{◌≡◌, ℕ, ◌^◌, ◌<◌, length, All, sum};
+ghost use Rattle.std.specs.Prelude.{◌≡◌, ℕ, ◌<◌, length, All, sum};
 ghost use Rattle.helios_model.specs.Plans.{IsAccepted, count_of};
 ghost use Rattle.helios_model.specs.Optimal.{pair_value, IsOptimal};
 ghost use Rattle.plan_certificate.specs.Judgement.{verdict_of};
@@ -6,9 +6,11 @@ ghost use Rattle.plan_certificate.specs.Says.{Says};
 ghost use Rattle.plan_certificate.specs.Verdict.{ArePaired};
 
 use crate::pairing::first_unpaired;
-use crate::short::first_short;
 use crate::verdict::Verdict;
-use helios_model::{Certificate, Plan, SiteId};
+use helios_model::{
+    Certificate, Plan, SiteId, certificates_show_optimal, each_search_finds_first,
+    each_short_pair_is_found, first_short, pairings_are_orders,
+};
 
 /// The verdict on a plan and a certificate of as many sites.
 #[tactic(auto, using(crate::proofs::Judgements::verdict_is))]
@@ -18,6 +20,9 @@ pub fn check(plan: &Plan, certificate: &Certificate) -> Verdict
     ensures exact { result ≡ verdict_of plan.now certificate.now.pair }
     ensures optimal { (total : ℕ) → result ≡ Verdict.Optimal total → IsOptimal plan.now }
 {
+    each_search_finds_first();
+    each_short_pair_is_found();
+    pairings_are_orders();
     judge(plan, certificate.pair.items())
 }
 
@@ -36,7 +41,7 @@ fn judge(plan: &Plan, pair: &[u8]) -> Verdict
 }
 
 // The verdict on an accepted plan and a pairing of its sites.
-#[tactic(auto, using(crate::proofs::Verdicts::certified, crate::proofs::Verdicts::certified_optimal, helios_model::proofs::PlanLimits::latencies_fit, crate::proofs::Verdicts::partners_are_sites))]
+#[tactic(auto, using(crate::proofs::Verdicts::certified, crate::proofs::Verdicts::certified_optimal, crate::proofs::Verdicts::partners_are_sites))]
 fn weigh(plan: &Plan, pair: &[u8]) -> Verdict
     requires long { length pair.now ≡ count_of plan.now }
     requires accepted { IsAccepted plan.now }
@@ -44,7 +49,9 @@ fn weigh(plan: &Plan, pair: &[u8]) -> Verdict
     ensures says { Says plan.now pair.now result }
     ensures optimal { (total : ℕ) → result ≡ Verdict.Optimal total → IsOptimal plan.now }
 {
-    let given = sum_of(plan.latencies().items());
+    certificates_show_optimal();
+    pairings_are_orders();
+    let given = plan.total();
     let value = value_of(plan, pair);
     if given == value {
         Verdict::Optimal(given)
@@ -53,15 +60,8 @@ fn weigh(plan: &Plan, pair: &[u8]) -> Verdict
     }
 }
 
-fn sum_of(latencies: &[u64]) -> u64
-    requires { sum latencies.now < 2 ^ 64 }
-    ensures { result ≡ sum latencies.now }
-{
-    latencies.iter().sum()
-}
-
 // The round trips to the partners, added up.
-#[tactic(auto, using(crate::proofs::Sums::sum_below_more, helios_model::proofs::PlanLimits::trip_bounded))]
+#[tactic(auto, using(helios_model::specs::Pairings::sum_below_more))]
 fn value_of(plan: &Plan, pair: &[u8]) -> u64
     requires long { length pair.now ≡ count_of plan.now }
     requires sites { All (λ partner. partner < count_of plan.now) pair.now }

@@ -4,17 +4,10 @@
 #![tactic(auto)]
 
 mod judge;
-mod laws;
 mod pairing;
 mod planning;
-mod short;
 mod verdict;
 
 pub use judge::check;
-pub use laws::certificates_show_optimal;
 pub use planning::plan_of;
-pub use short::first_short;
 pub use verdict::Verdict;
-
-#[cfg(test)]
-mod tests;

@@ -6,7 +6,10 @@ ghost use Rattle.plan_certificate.specs.Judgement.{verdict_of};
 ghost use Rattle.plan_certificate.specs.Planning.{AreSums, planned};
 
 use crate::verdict::Verdict;
-use helios_model::{Certificate, Matrix, Plan, Times};
+use helios_model::{
+    Certificate, Matrix, Names, Plan, Times, certificates_show_optimal, each_search_finds_first,
+    each_short_pair_is_found, pairings_are_orders, partners_add_up,
+};
 use latency_assign::assign;
 use latency_assign::potentials::Potentials;
 use std::alloc::{AllocError, Global};
@@ -39,15 +42,14 @@ fn latencies(alloc: Global, m: &Matrix, potentials: &Potentials) -> Result<Times
     requires { IsAssignment m.now potentials.now }
     ensures { IfOk result (AreSums m.now potentials.now) }
 {
-    let _count = m.count();
     sums(alloc, potentials.u.items(), potentials.v.items())
 }
 
-fn plan_with(alloc: Global, m: &Matrix, latencies: Times) -> Result<Plan, AllocError>
-    requires { IsPlan m.now.names m.now.trips latencies }
-    ensures { IfOk result (λ plan. plan ≡ planned m.now latencies) }
+fn plan_with(names: &Names, trips: &Times, latencies: Times) -> Result<Plan, AllocError>
+    requires { IsPlan names.now trips.now latencies }
+    ensures { IfOk result (λ plan. plan ≡ record { names = names.now; trips = trips.now; latencies = latencies }) }
 {
-    Ok(Plan::new(m.names().copy()?, m.trips().copy()?, latencies))
+    Ok(Plan::new(names.copy()?, trips.copy()?, latencies))
 }
 
 /// The plan of a matrix with the least average latency, and the pairing that proves it. Only want of memory is an error.
@@ -62,10 +64,15 @@ pub fn plan_of(alloc: Global, m: &Matrix) -> Result<(Plan, Certificate), AllocEr
     ensures judged { IfOk result (λ made. verdict_of made.0 made.1.pair ≡ Verdict.Optimal (sum made.0.latencies)) }
     ensures optimal { IfOk result (λ made. IsOptimal made.0) }
 {
-    let _count = m.count();
+    certificates_show_optimal();
+    each_search_finds_first();
+    each_short_pair_is_found();
+    pairings_are_orders();
+    partners_add_up();
+    let names = m.names();
     let potentials = assign(alloc, m)?;
     let latencies = latencies(alloc, m, &potentials)?;
-    let plan = plan_with(alloc, m, latencies)?;
+    let plan = plan_with(names, m.trips(), latencies)?;
     let Potentials { u: _, v: _, s } = potentials;
     Ok((plan, Certificate { pair: s }))
 }

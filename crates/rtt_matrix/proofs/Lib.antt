@@ -1,4 +1,2 @@
-pub mod Checked
-pub mod FirstPlaces
-pub mod Mirrors
+pub mod Counting
 pub mod RowSteps

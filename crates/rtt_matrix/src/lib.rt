@@ -9,6 +9,3 @@ mod rows;
 
 pub use reading::read_matrix;
 pub use refusal::MatrixRefusal;
-
-#[cfg(test)]
-mod tests;

@@ -1,41 +1,66 @@
-ghost use Rattle.std.specs.Prelude.{◌≡◌, IfOk, map, string_bytes};
-ghost use Rattle.json_text.specs.Reading.{Gives};
-ghost use Rattle.serde_json.specs.View.{view};
-ghost use Rattle.rtt_matrix.specs.Reading.{matrix_at, matrix_of_text, names_at};
+ghost use Rattle.std.specs.Prelude.{◌≡◌, ◌≤◌, IfOk, OnOk, length};
+ghost use Rattle.helios_model.specs.Limits.{most_sites};
+ghost use Rattle.helios_model.specs.Naming.{AreNames, is_count};
+ghost use Rattle.json_text.specs.Reading.{Gives, GivesAs, demand};
+ghost use Rattle.serde_json.specs.Events.{items_len};
+ghost use Rattle.serde_json.specs.View.{items_view, view};
+ghost use Rattle.rtt_matrix.specs.Reading.{items_at, matrix_at, matrix_of_text, names_of};
 
-use crate::checks::{check_names, check_trips};
+use crate::checks::check_trips;
 use crate::refusal::MatrixRefusal;
 use crate::rows::trips;
-use helios_model::{Matrix, Name, Names};
-use json_text::{texts, value_of};
+use helios_model::{MOST_SITES, Matrix, Names, first_bad_name};
+use json_text::{are_texts, array_member, read_names, value_of};
 use serde_json::Value;
-use std::alloc::{AllocError, Global};
+use std::alloc::Global;
 
-fn named(alloc: Global, texts: Vec<String>) -> Result<Vec<Name>, AllocError>
-    ensures { IfOk result (λ names. names.items ≡ map string_bytes texts.items) }
+#[tactic(auto, unfolding(crate::specs::Reading::items_at))]
+fn items<'a>(value: &'a Value, name: &str) -> Result<&'a Vec<Value>, MatrixRefusal>
+    ensures { GivesAs (λ v. items_view v.now.items) MatrixRefusal.NoMemory result (items_at name.now (view value.now)) }
 {
-    texts.into_iter().map(Name::new).collect(alloc)
+    array_member(value, name).ok_or(MatrixRefusal::BadShape)
 }
 
-#[tactic(auto, unfolding(crate::specs::Reading::names_at))]
-fn names(alloc: Global, value: &Value) -> Result<Names, MatrixRefusal>
-    ensures { Gives MatrixRefusal.NoMemory result (names_at (view value.now)) }
+// Whether so many texts can name the sites of a cluster.
+#[tactic(auto, using(crate::proofs::Counting::view_len))]
+fn check_count(texts: &[Value]) -> Result<(), MatrixRefusal>
+    ensures exact { Gives MatrixRefusal.NoMemory result
+        (demand (MatrixRefusal.SiteCount (items_len (items_view texts.now))) (is_count (items_len (items_view texts.now)))) }
+    ensures some { OnOk result (1 ≤ length texts.now) }
+    ensures few { OnOk result (length texts.now ≤ most_sites) }
 {
-    let field = value.get("names").ok_or(MatrixRefusal::BadShape)?;
-    let texts = texts(alloc, field)?.ok_or(MatrixRefusal::BadShape)?;
-    Ok(Names::new(named(alloc, texts)?))
+    if texts.is_empty() || texts.len() > MOST_SITES as usize {
+        return Err(MatrixRefusal::SiteCount(texts.len() as u64));
+    }
+    Ok(())
 }
 
-#[tactic(auto, using(crate::proofs::Checked::matrix_checked), unfolding(crate::specs::Reading::matrix_at, crate::specs::Reading::rows_at))]
+// The names of a cluster's sites. How many there are is tested before the first is copied.
+#[tactic(auto, unfolding(crate::specs::Reading::names_of))]
+fn names(alloc: Global, texts: &[Value]) -> Result<Names, MatrixRefusal>
+    ensures exact { Gives MatrixRefusal.NoMemory result (names_of (items_view texts.now)) }
+    ensures some { IfOk result (λ names. 1 ≤ length names) }
+    ensures few { IfOk result (λ names. length names ≤ most_sites) }
+    ensures names { IfOk result AreNames }
+{
+    check_count(texts)?;
+    let names = read_names(alloc, texts).map_err(|unread| unread.because(MatrixRefusal::BadShape))?;
+    match first_bad_name(names.as_slice()) {
+        None => Ok(Names::new(names)),
+        Some(place) => Err(MatrixRefusal::BadName(place)),
+    }
+}
+
+#[tactic(auto, unfolding(crate::specs::Reading::matrix_at))]
 fn matrix(alloc: Global, value: &Value) -> Result<Matrix, MatrixRefusal>
     ensures { Gives MatrixRefusal.NoMemory result (matrix_at (view value.now)) }
 {
-    let names = names(alloc, value)?;
-    let rows = value
-        .get("rtt")
-        .and_then(Value::as_array)
-        .ok_or(MatrixRefusal::BadShape)?;
-    check_names(names.items())?;
+    let texts = items(value, "names")?;
+    if !are_texts(texts.as_slice()) {
+        return Err(MatrixRefusal::BadShape);
+    }
+    let rows = items(value, "rtt")?;
+    let names = names(alloc, texts.as_slice())?;
     let count = names.items().len();
     let trips = trips(alloc, count, rows)?;
     check_trips(count, trips.items())?;

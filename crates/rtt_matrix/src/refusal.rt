@@ -2,6 +2,7 @@ ghost use Rattle.std.specs.Prelude.{◌≡◌, Some};
 ghost use Rattle.rtt_matrix.specs.declared.refusal.MatrixRefusal.TheVariants.{NoMemory};
 ghost use Rattle.rtt_matrix.specs.Lines.{refusal_text};
 
+use json_text::Refusal;
 use std::alloc::{AllocError, AllocFailed};
 use std::fmt;
 
@@ -43,6 +44,14 @@ impl fmt::Display for MatrixRefusal {
             MatrixRefusal::Diagonal(i) => write!(f, "diagonal {i}"),
             MatrixRefusal::NoMemory => write!(f, "no-memory"),
         }
+    }
+}
+
+impl Refusal for MatrixRefusal {
+    ghost memory = { NoMemory };
+
+    fn no_memory() -> MatrixRefusal {
+        MatrixRefusal::NoMemory
     }
 }
 

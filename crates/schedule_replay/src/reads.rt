@@ -1,4 +1,4 @@
-use helios_model::{Key, Version};
+use helios_model::{Key, Keyed, Version};
 
 /// The version that a planned request reads.
 #[derive(Clone, Copy, Debug, PartialEq, Eq)]
@@ -13,4 +13,12 @@ pub enum PlannedVersion {
 pub struct PlannedRead {
     pub key: Key,
     pub version: PlannedVersion,
+}
+
+impl Keyed for PlannedRead {
+    ghost key_of = { λ r. r.key };
+
+    fn key(&self) -> &Key {
+        &self.key
+    }
 }

@@ -1,7 +1,7 @@
 use Rattle.std.proofs.Common.{◌≡◌, ◌≤◌, ◌*◌, get_or}
 use Rattle.helios_model.specs.Limits.{longest_trip}
 use Rattle.helios_model.specs.Plans.{rtt}
-use Rattle.plan_certificate.proofs.Sums.{sum_below}
+use Rattle.helios_model.specs.Pairings.{sum_below}
 use Rattle.plan_certificate.proofs.judge.value_of.Given as goal
 
 -- the round trips of the sites so far
