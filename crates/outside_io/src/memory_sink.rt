@@ -80,9 +80,7 @@ impl MemSink {
 }
 
 impl Sink for MemSink {
-    ghost taken = { λ s. Some s.taken };
-
-    ghost faults = { λ s. s.faults };
+    ghost seen = { λ s. record { taken = Some s.taken; faults = s.faults } };
 
     fn write(&mut self, from: &[u8]) -> Result<usize, Failed>
         ensures fails { IsErr result ↔

@@ -39,9 +39,7 @@ impl QuietSource {
 }
 
 impl Source for QuietSource {
-    ghost left = { λ s. Some s };
-
-    ghost faults = { λ _. 0 };
+    ghost seen = { λ s. record { left = Some s; faults = 0 } };
 
     fn read(&mut self, into: &mut [u8]) -> Result<usize, Failed>
         ensures amount { result ≡ Ok (min (length into.old) (length self.old)) }
@@ -72,9 +70,7 @@ impl NullSink {
 }
 
 impl Sink for NullSink {
-    ghost taken = { λ _. None };
-
-    ghost faults = { λ _. 0 };
+    ghost seen = { λ _. record { taken = None; faults = 0 } };
 
     fn write(&mut self, from: &[u8]) -> Result<usize, Failed>
         ensures amount { result ≡ Ok (length from.now) }

@@ -41,9 +41,7 @@ impl<'a, R: Input> StdSource<'a, R> {
 }
 
 impl<'a, R: Input> Source for StdSource<'a, R> {
-    ghost left = { λ _. None };
-
-    ghost faults = { λ s. s };
+    ghost seen = { λ s. record { left = None; faults = s } };
 
     fn read(&mut self, into: &mut [u8]) -> Result<usize, Failed>
         ensures after { MatchResult result
@@ -108,9 +106,7 @@ impl<'a, R: Print> StdSink<'a, R> {
 }
 
 impl<'a, R: Print> Sink for StdSink<'a, R> {
-    ghost taken = { λ _. None };
-
-    ghost faults = { λ s. s };
+    ghost seen = { λ s. record { taken = None; faults = s } };
 
     fn write(&mut self, from: &[u8]) -> Result<usize, Failed>
         ensures after { MatchResult result
