@@ -3,14 +3,14 @@ ghost use Rattle.std.specs.Io.{ReadsAtMost};
 ghost use Rattle.std.specs.Io.KnownBytes.{ReadConsumes, WriteAppends};
 ghost use Rattle.outside_io.specs.Causes.{HasCause, IsCount, StaysTold};
 
-use crate::unread::Unread;
+use crate::unread::UnreadBytes;
 use crate::{Failed, Sink, Source};
 use std::marker::Model;
 
 /// A source over bytes in memory that gives as many as the buffer has room for, and never fails.
 #[derive(Drop)]
 pub struct QuietSource {
-    unread: Unread,
+    unread: UnreadBytes,
 }
 
 impl Model for QuietSource {
@@ -26,7 +26,7 @@ impl QuietSource {
         ensures { result ≡ bytes.items }
     {
         QuietSource {
-            unread: Unread::new(bytes),
+            unread: UnreadBytes::new(bytes),
         }
     }
 
