@@ -1,10 +1,9 @@
 // A disk that is a file.
 ghost use Rattle.std.specs.Prelude.{◌≡◌, ℕ, ◌≤◌, List, None, length, IfOk, IfSome, MatchResult};
-ghost use Rattle.outside_io.specs.Causes.{HasCause, IsCount};
-ghost use Rattle.disk_store.specs.Fates.{one_more};
+ghost use Rattle.outside_io.specs.Causes.{HasCause, IsCount, one_more};
 
 use crate::Disk;
-use outside_io::Failed;
+use outside_io::{Failed, FaultCount};
 use std::fs::{OpenFile, OpenOptions};
 use std::io::ErrorKind;
 use std::marker::Model;
@@ -16,7 +15,7 @@ use std::rt::Files;
 #[derive(Drop)]
 pub struct FileDisk<R: Files> {
     file: R::File,
-    faults: u64,
+    faults: FaultCount,
 }
 
 impl<R: Files> Model for FileDisk<R> {
@@ -38,18 +37,12 @@ impl<R: Files> FileDisk<R> {
         let mut options = OpenOptions::new();
         options.read(true).write(true).create(true);
         match options.open(rt, path) {
-            Ok(file) => Ok(FileDisk { file, faults: 0 }),
+            Ok(file) => Ok(FileDisk {
+                file,
+                faults: FaultCount::new(),
+            }),
             Err(_) => Err(Failed),
         }
-    }
-
-    /// Raises the count of faults, up to its last value.
-    fn count_fault(&mut self) -> Failed
-        ensures next { self.new ≡ one_more self.old }
-        ensures count { IsCount self.old }
-    {
-        self.faults = self.faults.saturating_add(1);
-        Failed
     }
 }
 
@@ -74,7 +67,7 @@ where
     {
         match self.file.metadata() {
             Ok(metadata) => Ok(metadata.len()),
-            Err(_) => Err(self.count_fault()),
+            Err(_) => Err(self.faults.count_fault()),
         }
     }
 
@@ -86,7 +79,7 @@ where
     {
         match read_all_at(&self.file, at, into) {
             Some(count) => Ok(count),
-            None => Err(self.count_fault()),
+            None => Err(self.faults.count_fault()),
         }
     }
 
@@ -97,7 +90,7 @@ where
     {
         match self.file.write_all_at(from, at) {
             Ok(()) => Ok(()),
-            Err(_) => Err(self.count_fault()),
+            Err(_) => Err(self.faults.count_fault()),
         }
     }
 
@@ -108,7 +101,7 @@ where
     {
         match self.file.sync_all() {
             Ok(()) => Ok(()),
-            Err(_) => Err(self.count_fault()),
+            Err(_) => Err(self.faults.count_fault()),
         }
     }
 }
