@@ -4,3 +4,4 @@ pub mod Moments
 pub mod Over
 pub mod Records
 pub mod Torn
+pub mod Windows

@@ -11,6 +11,7 @@ mod memory;
 mod places;
 mod record;
 mod traits;
+mod window;
 
 pub use bench::Bench;
 pub use fate::{Keep, Script, Stop};
