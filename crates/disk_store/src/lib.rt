@@ -19,6 +19,3 @@ pub use file::FileDisk;
 pub use memory::MemDisk;
 pub use record::RecordDisk;
 pub use traits::Disk;
-
-#[cfg(test)]
-mod tests;

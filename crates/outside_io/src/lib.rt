@@ -9,8 +9,6 @@ mod memory_sink;
 mod memory_source;
 mod quiet;
 mod system;
-#[cfg(test)]
-mod tests;
 mod traits;
 mod unread;
 mod whole;

@@ -61,7 +61,7 @@ impl<'a, R: Input> Source for StdSource<'a, R> {
 }
 
 /// Reads, and again where a signal came between; `None` where the read failed.
-pub(crate) fn read_once<R: Read>(reader: &mut R, into: &mut [u8]) -> Option<usize>
+fn read_once<R: Read>(reader: &mut R, into: &mut [u8]) -> Option<usize>
     ensures { IfSome result (λ n. n ≤ length into.new) }
 {
     for _ in 0..u64::MAX {
@@ -127,7 +127,7 @@ impl<'a, R: Print> Sink for StdSink<'a, R> {
 }
 
 /// Writes, and again where a signal came between; `None` where the write failed.
-pub(crate) fn write_once<R: Print>(rt: &R, from: &[u8]) -> Option<usize>
+fn write_once<R: Print>(rt: &R, from: &[u8]) -> Option<usize>
     ensures { IfSome result (λ n. n ≤ length from.now) }
 {
     for _ in 0..u64::MAX {
