@@ -3,34 +3,17 @@ use Rattle.std.proofs.Common.{◌≡◌, ◌≢◌, inl, inr, ℕ, ◌+◌, ◌-
 use Rattle.std.proofs.lemmas.Bool.{cases_eq, cases_lt}
 use Rattle.std.proofs.lemmas.Bool.Decides.{nat_tests}
 use Rattle.std.proofs.lemmas.List.{length-replicate}
-use Rattle.disk_store.specs.Disk.{DiskState, at_rest, over, after_write}
+use Rattle.disk_store.specs.Disk.{DiskState, TornFrom, at_rest, over, after_write}
 use Rattle.disk_store.specs.Crash.{kept}
-use Rattle.disk_store.specs.Records.{ReadsAs}
 use Rattle.disk_store.specs.Memory.{outlook_of, keep_of}
 use Rattle.disk_store.specs.declared.fate.Script.{Script}
 use Rattle.disk_store.specs.declared.fate.Keep.{Keep}
 use Rattle.disk_store.specs.declared.fate.Keep.TheVariants.{All, Nothing, Byte}
-use Rattle.disk_store.proofs.Over.{over_within, length-over}
-use Rattle.disk_store.proofs.Fill.{kept_image, fill_marked}
-use Rattle.disk_store.proofs.Records.{reads_write}
-use Rattle.disk_store.proofs.Torn.{write_is_torn}
+use Rattle.disk_store.specs.Laws.Over.{over_within, length-over}
+use Rattle.disk_store.specs.Laws.Crash.{kept_torn, fill_marked}
 use Rattle.node_journal.specs.Frames.{IsSmall, frame_of, IsReadTo, StandsFor}
 use Rattle.node_journal.specs.Appending.{IsReady, end_of, sealed, framed, stopped_at, failed_state, is_kept}
-use Rattle.node_journal.proofs.Images.{TornFrom, torn_images, staged, staged_before, staged_within, staged_gate, gate_opened, sealed_ends, frame_images, ends_kept}
-
-rest_reads : (bytes : List ℕ) → ReadsAs (at_rest bytes) bytes
-rest_reads bytes = record {
-  reads = refl;
-  marked = length-replicate (length bytes) false;
-  image = record { no_shorter = omega arith; no_longer = omega (arith, length-replicate (length bytes) false); unwritten = λ place within is. refl };
-}
-
--- what a crash leaves of a disk on which a write was begun or done
-kept_torn : (at : ℕ) (from bytes : List ℕ) (keep : Keep) → at ≤ length bytes → TornFrom at (length from) bytes (kept keep (after_write at from (at_rest bytes)))
-kept_torn at from bytes keep le =
-    let reads = reads_write (at_rest bytes) bytes (rest_reads bytes) at from le in
-    torn_images at (length from) bytes le (after_write at from (at_rest bytes)) (kept keep (after_write at from (at_rest bytes)))
-    (write_is_torn at from (at_rest bytes) le) (kept_image keep (after_write at from (at_rest bytes)) reads.image reads.marked)
+use Rattle.node_journal.proofs.Images.{staged, staged_before, staged_within, staged_gate, gate_opened, sealed_ends, frame_images, ends_kept}
 
 module _ (gate : ℕ) (payload bytes : List ℕ) (within : gate < length bytes) (payloads : List (List ℕ)) (read : IsReadTo bytes gate payloads) (closed : get_or bytes gate 0 ≢ 1) (small : IsSmall payload) where
   -- the gate stays closed while the frame is written
