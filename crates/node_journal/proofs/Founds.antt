@@ -4,7 +4,7 @@ use Rattle.std.specs.Option.{ForSome}
 use Rattle.std.proofs.lemmas.List.{drop-drop}
 use Rattle.disk_store.specs.Disk.{DiskState}
 use Rattle.node_journal.specs.Frames.{length_bytes, HoldsFrame, IsReadTo, EndsAt}
-use Rattle.node_journal.specs.Heads.{HasLength}
+use Rattle.node_journal.specs.Gates.{HasLength}
 use Rattle.node_journal.specs.Positions.{Position}
 use Rattle.node_journal.specs.Reading.{Finds, ReadsOn, LeavesReady}
 use Rattle.node_journal.specs.Appending.{IsReady}

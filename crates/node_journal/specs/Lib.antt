@@ -2,6 +2,6 @@ pub mod Frames
 pub mod Appending
 pub mod Opening
 pub mod Positions
-pub mod Heads
+pub mod Gates
 pub mod Reading
 pub mod Lines

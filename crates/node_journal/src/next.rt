@@ -3,11 +3,11 @@ ghost use Rattle.std.specs.Option.{ForSome};
 ghost use Rattle.outside_io.specs.Causes.{IsCount, Rose};
 ghost use Rattle.disk_store.specs.Outlook.{never};
 ghost use Rattle.node_journal.specs.Frames.{IsReadTo};
-ghost use Rattle.node_journal.specs.Heads.{HasLength};
+ghost use Rattle.node_journal.specs.Gates.{HasLength};
 ghost use Rattle.node_journal.specs.Reading.{Finds, ReadsOn, LeavesReady};
 
 use crate::framed::PAYLOAD_LIMIT;
-use crate::head::{Head, read_head};
+use crate::gate::{Gate, read_gate};
 use crate::{Found, Journal, JournalFault, Reading};
 use disk_store::Disk;
 use helios_model::Bytes;
@@ -35,13 +35,13 @@ impl Reading {
         ensures failed { IfSome (D.outlook disk.old) (λ o. IsErrOf result JournalFault.DiskFailed → o.failing ≢ never) }
         ensures quiet { IfSome (D.outlook disk.old) (λ o. o.failing ≡ never → D.outlook disk.new ≡ Some o) }
     {
-        match read_head(disk, self.gate)? {
-            Head::Closed => Ok(Found::Last(Journal {
+        match read_gate(disk, self.gate)? {
+            Gate::Closed => Ok(Found::Last(Journal {
                 gate: self.gate,
                 limit: self.limit,
             })),
-            Head::Cut => Err(JournalFault::Damaged { at: self.gate }),
-            Head::Length(size) => self.read_frame(alloc, disk, u64::from(size)),
+            Gate::Cut => Err(JournalFault::Damaged { at: self.gate }),
+            Gate::Length(size) => self.read_frame(alloc, disk, u64::from(size)),
         }
     }
 

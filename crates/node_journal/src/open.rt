@@ -46,13 +46,13 @@ impl Journal {
         ensures failed { IfSome (D.outlook disk.old) (λ o. IsErr result → (o.failing ≢ never) ⊎ (o.room ≡ 0)) }
         ensures quiet { IfSome (D.outlook disk.old) (λ o. o.failing ≡ never → D.outlook disk.new ≡ Some o) }
     {
-        settle(disk)?;
+        ensure_first_gate(disk)?;
         Ok(Reading { gate: 0, limit })
     }
 }
 
 /// Makes what the disk reads as durable, and makes the first gate where there are at most one byte.
-fn settle<D: Disk>(disk: &mut D) -> Result<(), Failed>
+fn ensure_first_gate<D: Disk>(disk: &mut D) -> Result<(), Failed>
     ensures opened { OnOk result (D.state disk.new ≡ option_map (λ d. at_rest (opened d.bytes)) (D.state disk.old)) }
     ensures any_moment { IfSome (D.state disk.old) (λ d.
         AtEachMoment (D.past disk.old) (D.past disk.new) (D.state disk.new) (λ t. (t ≡ d) ⊎ KeepsPayloads d t)) }
