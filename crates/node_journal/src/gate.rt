@@ -2,7 +2,7 @@
 ghost use Rattle.std.specs.Prelude.{◌≡◌, ◌≢◌, ◌<◌, ◌≤◌, ◌+◌, Some, length, take, ◌∷◌, slice_index, option_map, IfSome, IfOk, is_ok, IsErr, OnErr};
 ghost use Rattle.std.specs.Option.{ForSome};
 ghost use Rattle.outside_io.specs.Causes.{HasCause, IsCount};
-ghost use Rattle.disk_store.specs.Disk.{GivesBytes};
+ghost use Rattle.disk_store.specs.Disk.{GivesBytes, IsImage};
 ghost use Rattle.disk_store.specs.Outlook.{never};
 ghost use Rattle.node_journal.specs.Frames.{length_bytes, length_from};
 ghost use Rattle.node_journal.specs.Gates.{GateIs};
@@ -25,6 +25,8 @@ pub(crate) enum Gate {
 pub(crate) fn read_gate<D: Disk>(disk: &mut D, gate: u64) -> Result<Gate, Failed>
     requires { ForSome (D.state disk.old) (λ d. gate < length d.bytes) }
     ensures stands { IfOk result (λ found. IfSome (D.state disk.old) (λ d. GateIs d.bytes gate found)) }
+    ensures image { IfSome (D.state disk.new) (λ d. IsImage d d.bytes) }
+    ensures room { option_map (λ o. o.room) (D.outlook disk.new) ≡ option_map (λ o. o.room) (D.outlook disk.old) }
     ensures same { D.state disk.new ≡ D.state disk.old }
     ensures same_past { D.past disk.new ≡ D.past disk.old }
     ensures failed { IfSome (D.outlook disk.old) (λ o. IsErr result → o.failing ≢ never) }

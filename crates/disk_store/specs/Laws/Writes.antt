@@ -20,6 +20,9 @@ rest_images bytes image is =
     ext_get_or 0 image bytes size (λ place lt. let within : place < length bytes = omega (arith, size) in
     is.unwritten place within (get_or-replicate (length bytes) place false true within))
 
+pub rest_image : (bytes : List ℕ) → IsImage (at_rest bytes) bytes
+rest_image bytes = record { no_shorter = omega arith; no_longer = omega (arith, length-replicate (length bytes) false); unwritten = λ place within is. refl }
+
 -- lists whose first items are the same
 pub same_front : (n : ℕ) (xs ys : List ℕ) → n ≤ length xs → n ≤ length ys → ((i : ℕ) → i < n → get_or xs i 0 ≡ get_or ys i 0) → take n xs ≡ take n ys
 same_front n xs ys le_x le_y same =
