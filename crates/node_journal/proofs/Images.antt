@@ -1,9 +1,9 @@
 -- What images stand for, and how that stays or grows.
-use Rattle.std.proofs.Common.{◌≡◌, ◌≢◌, inl, inr, ℕ, ◌+◌, ◌-◌, ◌<◌, ◌≤◌, max, List, [], ◌∷◌, ◌++◌, length, take, drop, get_or, sym, ◌∙◌, ap, subst, arith, append_assoc, length-append, take-append-drop}
+use Rattle.std.proofs.Common.{◌≡◌, ◌≢◌, ◌⊎◌, inl, inr, ℕ, ◌+◌, ◌-◌, ◌<◌, ◌≤◌, max, List, [], ◌∷◌, ◌++◌, length, take, drop, get_or, sym, ◌∙◌, ap, subst, arith, append_assoc, length-append, take-append-drop}
 use Rattle.std.proofs.lemmas.Bool.{cases_eq, cases_lt}
 use Rattle.std.proofs.lemmas.List.{take_at, drop_at, take-take, get_or-take, get_or_at, ext_get_or, length-take-le, append-nil}
 use Rattle.std.proofs.lemmas.List.Elements.{All-push}
-use Rattle.disk_store.specs.Disk.{TornFrom, over}
+use Rattle.disk_store.specs.Disk.{DiskState, IsImage, EachImage, TornFrom, over}
 use Rattle.disk_store.specs.Laws.Over.{length-over, take-over, over_before, over_within, over_behind}
 use Rattle.node_journal.specs.Frames.{length_bytes, IsSmall, frame_of, frames, IsReadTo, EndsAt, HoldsFrame, StandsFor}
 use Rattle.node_journal.specs.Appending.{IsBeforeOrAfter, sealed}
@@ -158,3 +158,12 @@ module _ (gate : ℕ) (payload bytes : List ℕ) (within : gate < length bytes) 
       let gate_same : get_or image gate 0 ≡ get_or bytes gate 0 =
       sym (get_or-take (gate + 1) image gate 0 (omega arith)) ∙ ap (λ (l : List ℕ). get_or l gate 0) torn.before ∙ get_or-take (gate + 1) bytes gate 0 (omega arith) in
       ends_kept bytes image gate payloads read same within' (λ is_open. closed (sym gate_same ∙ is_open))
+
+-- the gate behind a list stands where the list's frames end
+pub one_gate : (image : List ℕ) (gate : ℕ) (payloads : List (List ℕ)) → EndsAt image gate payloads → gate ≡ length (frames payloads)
+one_gate image gate payloads ends = sym (size_read image gate payloads ends.read)
+
+-- what a disk reads as is one of its images
+pub settled : (disk : DiskState) (payloads : List (List ℕ)) (payload : List ℕ) → EachImage disk (IsBeforeOrAfter payloads payload) → IsImage disk disk.bytes
+    → StandsFor disk.bytes payloads ⊎ StandsFor disk.bytes (payloads ++ payload ∷ [])
+settled disk payloads payload each reads = each disk.bytes reads

@@ -5,3 +5,4 @@ pub mod Positions
 pub mod Gates
 pub mod Reading
 pub mod Lines
+pub mod Laws
