@@ -3,3 +3,4 @@ pub mod Fill
 pub mod Over
 pub mod Records
 pub mod Torn
+pub mod Windows

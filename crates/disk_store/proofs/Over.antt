@@ -1,5 +1,5 @@
 -- Lists of which ranges are replaced, one behind the other.
-use Rattle.std.proofs.Common.{◌≡◌, ℕ, suc, ◌+◌, ◌-◌, ◌<◌, ◌≤◌, Bool, true, List, [], ◌∷◌, ◌++◌, length, take, drop, set, replicate, sym, ◌∙◌, ap, arith, append_assoc, length-append}
+use Rattle.std.proofs.Common.{◌≡◌, ℕ, suc, ◌+◌, ◌-◌, ◌<◌, ◌≤◌, Bool, List, [], ◌∷◌, ◌++◌, length, take, drop, set, replicate, sym, ◌∙◌, ap, arith, append_assoc, length-append}
 use Rattle.std.proofs.lemmas.List.{length-replicate, take_at, drop-drop, append-nil, set_split, replicate-append-replicate, take-append-drop}
 use Rattle.disk_store.specs.Disk.{over}
 use Rattle.disk_store.specs.Laws.Over.{front-over, drop-over}
@@ -33,12 +33,12 @@ over_place {X} place x xs lt =
     ∙ ap (λ (n : ℕ). take place xs ++ (x ∷ []) ++ drop n xs) next
 
 -- one place more is marked
-pub marked_more : (at place : ℕ) (old : List Bool) → at ≤ length old → at ≤ place → over place (true ∷ []) (over at (replicate (place - at) true) old) ≡ over at (replicate (place + 1 - at) true) old
-marked_more at place old le before =
+pub marked_more : (at place : ℕ) (mark : Bool) (old : List Bool) → at ≤ length old → at ≤ place → over place (mark ∷ []) (over at (replicate (place - at) mark) old) ≡ over at (replicate (place + 1 - at) mark) old
+marked_more at place mark old le before =
     let n = place - at in
-    let here : place ≡ at + length (replicate n true) = omega (arith, length-replicate n true) in
+    let here : place ≡ at + length (replicate n mark) = omega (arith, length-replicate n mark) in
     let more : n + 1 ≡ place + 1 - at = omega arith in
-    ap (λ (k : ℕ). over k (true ∷ []) (over at (replicate n true) old)) here
-    ∙ over-over at (replicate n true) (true ∷ []) old le
-    ∙ ap (λ (l : List Bool). over at l old) (replicate-append-replicate n 1 true)
-    ∙ ap (λ (k : ℕ). over at (replicate k true) old) more
+    ap (λ (k : ℕ). over k (mark ∷ []) (over at (replicate n mark) old)) here
+    ∙ over-over at (replicate n mark) (mark ∷ []) old le
+    ∙ ap (λ (l : List Bool). over at l old) (replicate-append-replicate n 1 mark)
+    ∙ ap (λ (k : ℕ). over at (replicate k mark) old) more

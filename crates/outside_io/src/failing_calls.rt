@@ -1,27 +1,30 @@
 ghost use Rattle.std.specs.Prelude.{◌≡◌, ◌^◌, ◌↔◌, [], IsTrue, Contains};
 ghost use Rattle.std.specs.Option.{unwrap_or};
-ghost use Rattle.outside_io.specs.Memory.{next_call, next_fault};
+ghost use Rattle.outside_io.specs.Causes.{IsCount, one_more};
+ghost use Rattle.outside_io.specs.Memory.{next_call};
+
+use crate::{Failed, FaultCount};
 
 /// Which calls of an object in memory fail: those whose numbers, from 0, stand in a list. It counts
 /// the calls and the faults.
 #[derive(Drop)]
-pub(crate) struct Script {
+pub(crate) struct FailingCalls {
     fails: Vec<u64>,
     /// The number of the next call; none where 2^64 calls have come.
     next: Option<u64>,
-    faults: u64,
+    faults: FaultCount,
 }
 
-impl Script {
-    pub(crate) fn new(fails: Vec<u64>) -> Script
+impl FailingCalls {
+    pub(crate) fn new(fails: Vec<u64>) -> FailingCalls
         ensures fails { result.fails.items ≡ fails.items }
         ensures next { result.next ≡ Some 0 }
         ensures faults { result.faults ≡ 0 }
     {
-        Script {
+        FailingCalls {
             fails,
             next: Some(0),
-            faults: 0,
+            faults: FaultCount::new(),
         }
     }
 
@@ -39,19 +42,20 @@ impl Script {
         listed
     }
 
-    /// Counts one fault.
-    pub(crate) fn count_fault(&mut self)
-        ensures faults { self.new.faults ≡ next_fault self.old.faults }
+    /// Counts one fault, and gives what the call answers.
+    pub(crate) fn count_fault(&mut self) -> Failed
+        ensures faults { self.new.faults ≡ one_more self.old.faults }
+        ensures count { IsCount self.new.faults }
         ensures fails { self.new.fails.items ≡ self.old.fails.items }
         ensures next { self.new.next ≡ self.old.next }
     {
-        self.faults = self.faults.saturating_add(1);
+        self.faults.count_fault()
     }
 
     pub(crate) fn faults(&self) -> u64
         ensures { result ≡ self.now.faults }
     {
-        self.faults
+        self.faults.number()
     }
 }
 
