@@ -1,6 +1,6 @@
 -- The places outside of which a disk in memory is as it was synced.
-use Rattle.std.proofs.Common.{◌≡◌, ◌⊎◌, inl, inr, ℕ, ◌+◌, ◌-◌, ◌<◌, ◌≤◌, min, max, Bool, true, false, List, ◌++◌, length, take, drop, replicate, get_or, refl, sym, ◌∙◌, ap, arith, length-append, length-drop}
-use Rattle.std.proofs.lemmas.List.{ext_get_or, get_or-replicate, get_or-take, get_or-drop, get_or_append_left, get_or-append_right, length-take-le, length-replicate}
+use Rattle.std.proofs.Common.{◌≡◌, ◌⊎◌, inl, inr, ℕ, ◌+◌, ◌-◌, ◌<◌, ◌≤◌, min, max, Bool, true, false, List, length, take, drop, replicate, get_or, refl, sym, ◌∙◌, ap, arith, length-drop}
+use Rattle.std.proofs.lemmas.List.{ext_get_or, get_or-replicate, get_or-take, get_or-drop, length-take-le, length-replicate}
 use Rattle.std.proofs.lemmas.Bool.{cases_lt}
 use Rattle.std.proofs.lemmas.Bool.Decides.{eqb_tells}
 use Rattle.disk_store.specs.Disk.{DiskState, IsImage, at_rest, over, after_write}
@@ -8,7 +8,7 @@ use Rattle.disk_store.specs.Places.{IsWindow, HasRoom, widened}
 use Rattle.disk_store.specs.Records.{ReadsAs}
 use Rattle.disk_store.specs.declared.window.Window.{Window}
 use Rattle.disk_store.proofs.Records.{reads_write}
-use Rattle.disk_store.proofs.Over.{length-over, over_before, over_within, over_behind}
+use Rattle.disk_store.specs.Laws.Over.{length-over, over_before, over_within, over_behind}
 
 -- nothing was written
 pub empty_window : (disk : DiskState) (window : Window) → disk.synced ≡ disk.bytes → disk.written ≡ replicate (length disk.bytes) false → window.low ≡ 0 → window.high ≡ 0

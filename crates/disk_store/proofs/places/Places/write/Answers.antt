@@ -1,5 +1,5 @@
 use Rattle.std.proofs.Common.{◌≡◌, ◌+◌, ◌≤◌, List, ℕ, Bool, length, true, replicate, arith, sym, ◌∙◌, ap, subst, vec_capacity}
-use Rattle.disk_store.specs.Disk.{DiskState, IsImage, over, after_write}
+use Rattle.disk_store.specs.Disk.{DiskState, over, after_write}
 use Rattle.disk_store.specs.Places.{Stored, HasRoom, widened}
 use Rattle.disk_store.specs.declared.window.Window.{Window}
 use Rattle.disk_store.proofs.Windows.{written_room}

@@ -1,7 +1,7 @@
 use Rattle.std.proofs.Common.{◌∙◌, ap, is_some, inl, Option}
 use Rattle.disk_store.specs.Disk.{DiskState}
 use Rattle.node_journal.proofs.Opens.{moments_sync, moments_made, short_if}
-use Rattle.node_journal.proofs.open.settle.Goals as goal
+use Rattle.node_journal.proofs.open.ensure_first_gate.Goals as goal
 
 pub returns-in_err-len-clause-any_moment : goal.returns-in_err-len-clause-any_moment
 returns-in_err-len-clause-any_moment g c =

@@ -5,24 +5,24 @@ use Rattle.std.proofs.lemmas.Nat.{be_bytes_4}
 use Rattle.std.proofs.lemmas.List.{length-take, get_or-take, get_or-drop, take_all, take-take, drop-drop, drop-take}
 use Rattle.disk_store.specs.Disk.{DiskState, GivesBytes}
 use Rattle.node_journal.specs.Frames.{length_bytes, length_from}
-use Rattle.node_journal.specs.Heads.{HasLength, HeadIs}
-use Rattle.node_journal.specs.declared.head.Head.{Head}
-use Rattle.node_journal.specs.declared.head.Head.TheVariants.{Closed, Cut, Length}
+use Rattle.node_journal.specs.Gates.{HasLength, GateIs}
+use Rattle.node_journal.specs.declared.gate.Gate.{Gate}
+use Rattle.node_journal.specs.declared.gate.Gate.TheVariants.{Closed, Cut, Length}
 
 spelled_again : (a b c d size : ℕ) → ((i : ℕ) → get_or (a ∷ b ∷ c ∷ d ∷ []) i 0 < 256) → size ≡ length_from (a ∷ b ∷ c ∷ d ∷ []) → length_bytes size ≡ a ∷ b ∷ c ∷ d ∷ []
 unfolding length_bytes length_from
 spelled_again a b c d size small is = be_bytes_4 (a ∷ b ∷ c ∷ d ∷ []) size refl small is
 
 -- five bytes that begin with an open gate
-pub head_length : (bytes : List ℕ) (size : ℕ) → length bytes ≡ 5 → ((i : ℕ) → get_or bytes i 0 < 256) → get_or bytes 0 0 ≡ 1
+pub gate_length : (bytes : List ℕ) (size : ℕ) → length bytes ≡ 5 → ((i : ℕ) → get_or bytes i 0 < 256) → get_or bytes 0 0 ≡ 1
     → size ≡ length_from (get_or bytes 1 0 ∷ get_or bytes 2 0 ∷ get_or bytes 3 0 ∷ get_or bytes 4 0 ∷ []) → HasLength bytes 0 size
-head_length [] size five small is_open is = absurd (omega arith)
-head_length (g ∷ []) size five small is_open is = absurd (omega arith)
-head_length (g ∷ a ∷ []) size five small is_open is = absurd (omega arith)
-head_length (g ∷ a ∷ b ∷ []) size five small is_open is = absurd (omega arith)
-head_length (g ∷ a ∷ b ∷ c ∷ []) size five small is_open is = absurd (omega arith)
-head_length (g ∷ a ∷ b ∷ c ∷ d ∷ e ∷ rest) size five small is_open is = absurd (omega arith)
-head_length (g ∷ a ∷ b ∷ c ∷ d ∷ []) size five small is_open is =
+gate_length [] size five small is_open is = absurd (omega arith)
+gate_length (g ∷ []) size five small is_open is = absurd (omega arith)
+gate_length (g ∷ a ∷ []) size five small is_open is = absurd (omega arith)
+gate_length (g ∷ a ∷ b ∷ []) size five small is_open is = absurd (omega arith)
+gate_length (g ∷ a ∷ b ∷ c ∷ []) size five small is_open is = absurd (omega arith)
+gate_length (g ∷ a ∷ b ∷ c ∷ d ∷ e ∷ rest) size five small is_open is = absurd (omega arith)
+gate_length (g ∷ a ∷ b ∷ c ∷ d ∷ []) size five small is_open is =
     let four : length_bytes size ≡ a ∷ b ∷ c ∷ d ∷ [] = spelled_again a b c d size (λ i. small (suc i)) is in
     record {
       within = omega arith;
@@ -44,10 +44,10 @@ module _ (bytes into : List ℕ) (gate count : ℕ) (within : gate < length byte
       ap (λ (l : List ℕ). get_or l 0 0) gives.given ∙ get_or-take count (drop gate bytes) 0 0 some ∙ get_or-drop gate bytes 0 0 ∙ ap (λ (n : ℕ). get_or bytes n 0) same
 
   -- what the part that was read shows holds of the whole
-  head_at : (head : Head) → HeadIs part 0 head → HeadIs bytes gate head
-  head_at Closed closed = λ is_open. closed (first ∙ is_open)
-  head_at Cut cut = (sym first ∙ cut.0, omega (arith, cut.1, size_part, gives.counted))
-  head_at (Length size) has =
+  gate_at : (found : Gate) → GateIs part 0 found → GateIs bytes gate found
+  gate_at Closed closed = λ is_open. closed (first ∙ is_open)
+  gate_at Cut cut = (sym first ∙ cut.0, omega (arith, cut.1, size_part, gives.counted))
+  gate_at (Length size) has =
       let all : count ≡ 5 = omega (arith, has.within, size_part, gives.counted, five) in
       let part_is : part ≡ take 5 (drop gate bytes) = gives.given ∙ ap (λ (n : ℕ). take n (drop gate bytes)) all in
       let rest : take 4 (drop 1 part) ≡ take 4 (drop (gate + 1) bytes) =
@@ -60,7 +60,7 @@ module _ (bytes into : List ℕ) (gate count : ℕ) (within : gate < length byte
       }
 
 -- the same, of a disk that may tell its contents
-pub head_read : (state : Option DiskState) (into : List ℕ) (gate count : ℕ) (head : Head) → ForSome state (λ disk. gate < length disk.bytes) → IfSome state (λ disk. GivesBytes disk.bytes gate into count)
-    → length into ≡ 5 → HeadIs (take count into) 0 head → IfSome state (λ disk. HeadIs disk.bytes gate head)
-head_read None into gate count head within gives five is = tt
-head_read (Some disk) into gate count head within gives five is = head_at disk.bytes into gate count (within disk refl) gives five head is
+pub gate_read : (state : Option DiskState) (into : List ℕ) (gate count : ℕ) (found : Gate) → ForSome state (λ disk. gate < length disk.bytes) → IfSome state (λ disk. GivesBytes disk.bytes gate into count)
+    → length into ≡ 5 → GateIs (take count into) 0 found → IfSome state (λ disk. GateIs disk.bytes gate found)
+gate_read None into gate count found within gives five is = tt
+gate_read (Some disk) into gate count found within gives five is = gate_at disk.bytes into gate count (within disk refl) gives five found is

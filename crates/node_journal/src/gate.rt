@@ -2,17 +2,17 @@
 ghost use Rattle.std.specs.Prelude.{◌≡◌, ◌≢◌, ◌<◌, ◌≤◌, ◌+◌, Some, length, take, ◌∷◌, slice_index, option_map, IfSome, IfOk, is_ok, IsErr, OnErr};
 ghost use Rattle.std.specs.Option.{ForSome};
 ghost use Rattle.outside_io.specs.Causes.{HasCause, IsCount};
-ghost use Rattle.disk_store.specs.Disk.{GivesBytes};
+ghost use Rattle.disk_store.specs.Disk.{GivesBytes, IsImage};
 ghost use Rattle.disk_store.specs.Outlook.{never};
 ghost use Rattle.node_journal.specs.Frames.{length_bytes, length_from};
-ghost use Rattle.node_journal.specs.Heads.{HeadIs};
+ghost use Rattle.node_journal.specs.Gates.{GateIs};
 
 use disk_store::Disk;
 use outside_io::Failed;
 
 /// What stands at a gate.
 #[derive(Clone, Copy)]
-pub(crate) enum Head {
+pub(crate) enum Gate {
     /// The gate is not open.
     Closed,
     /// The gate is open, and the bytes end before a whole length.
@@ -22,9 +22,11 @@ pub(crate) enum Head {
 }
 
 /// Reads a gate and the length behind it.
-pub(crate) fn read_head<D: Disk>(disk: &mut D, gate: u64) -> Result<Head, Failed>
+pub(crate) fn read_gate<D: Disk>(disk: &mut D, gate: u64) -> Result<Gate, Failed>
     requires { ForSome (D.state disk.old) (λ d. gate < length d.bytes) }
-    ensures head { IfOk result (λ head. IfSome (D.state disk.old) (λ d. HeadIs d.bytes gate head)) }
+    ensures stands { IfOk result (λ found. IfSome (D.state disk.old) (λ d. GateIs d.bytes gate found)) }
+    ensures image { IfSome (D.state disk.new) (λ d. IsImage d d.bytes) }
+    ensures room { option_map (λ o. o.room) (D.outlook disk.new) ≡ option_map (λ o. o.room) (D.outlook disk.old) }
     ensures same { D.state disk.new ≡ D.state disk.old }
     ensures same_past { D.past disk.new ≡ D.past disk.old }
     ensures failed { IfSome (D.outlook disk.old) (λ o. IsErr result → o.failing ≢ never) }
@@ -35,23 +37,23 @@ pub(crate) fn read_head<D: Disk>(disk: &mut D, gate: u64) -> Result<Head, Failed
 {
     let mut bytes = [0u8; 5];
     let count = disk.read_at(gate, &mut bytes)?;
-    let head = head_of(bytes.split_at(count).0);
-    Ok(head)
+    let found = gate_of(bytes.split_at(count).0);
+    Ok(found)
 }
 
-/// The head that begins these bytes, of which there are at most five.
-#[tactic(auto, using(crate::proofs::HeadLemmas::head_length))]
-fn head_of(bytes: &[u8]) -> Head
+/// The gate that begins these bytes, of which there are at most five.
+#[tactic(auto, using(crate::proofs::GateLemmas::gate_length))]
+fn gate_of(bytes: &[u8]) -> Gate
     requires { length bytes.now ≤ 5 }
-    ensures { HeadIs bytes.now 0 result }
+    ensures { GateIs bytes.now 0 result }
 {
     if bytes.is_empty() || bytes[0] != 1 {
-        return Head::Closed;
+        return Gate::Closed;
     }
     if bytes.len() < 5 {
-        return Head::Cut;
+        return Gate::Cut;
     }
-    Head::Length(spelled_length([bytes[1], bytes[2], bytes[3], bytes[4]]))
+    Gate::Length(spelled_length([bytes[1], bytes[2], bytes[3], bytes[4]]))
 }
 
 /// The number that four bytes spell, the highest first.
