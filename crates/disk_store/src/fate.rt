@@ -35,7 +35,7 @@ pub struct Script {
 }
 
 /// What becomes of one call.
-#[derive(Clone, Copy, Debug, PartialEq, Eq)]
+#[derive(Clone, Copy, PartialEq, Eq)]
 pub(crate) enum Turn {
     /// It is done and answers Ok.
     Done,

@@ -3,7 +3,7 @@ ghost use Rattle.std.specs.Prelude.{◌≡◌};
 ghost use Rattle.disk_store.specs.Places.{widened};
 
 /// The places from the first that was written up to behind the last; none where both are the same.
-#[derive(Clone, Copy, Debug, PartialEq, Eq)]
+#[derive(Clone, Copy)]
 pub(crate) struct Window {
     pub(crate) low: usize,
     pub(crate) high: usize,
