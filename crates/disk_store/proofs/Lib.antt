@@ -1,6 +1,6 @@
 pub mod Clearing
 pub mod Fill
-pub mod Moments
 pub mod Over
 pub mod Records
 pub mod Torn
+pub mod Windows

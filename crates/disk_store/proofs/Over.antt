@@ -1,23 +1,11 @@
--- Lists of which a range is replaced.
-use Rattle.std.proofs.Common.{◌≡◌, ℕ, suc, ◌+◌, ◌-◌, ◌<◌, ◌≤◌, max, Bool, true, List, [], ◌∷◌, ◌++◌, length, take, drop, set, replicate, get_or, sym, ◌∙◌, ap, arith, append_assoc, length-append, length-drop}
-use Rattle.std.proofs.lemmas.List.{length-take-le, length-replicate, take_at, drop_at, drop-drop, append-nil, set_split, replicate-append-replicate, take-append-drop, get_or-append_right, get_or_append_left, get_or-take, get_or-drop}
+-- Lists of which ranges are replaced, one behind the other.
+use Rattle.std.proofs.Common.{◌≡◌, ℕ, suc, ◌+◌, ◌-◌, ◌<◌, ◌≤◌, Bool, List, [], ◌∷◌, ◌++◌, length, take, drop, set, replicate, sym, ◌∙◌, ap, arith, append_assoc, length-append}
+use Rattle.std.proofs.lemmas.List.{length-replicate, take_at, drop-drop, append-nil, set_split, replicate-append-replicate, take-append-drop}
 use Rattle.disk_store.specs.Disk.{over}
-
--- the front that is replaced up to its end
-front : {X : Type 0} (at : ℕ) (ys xs : List X) → at ≤ length xs → length (take at xs ++ ys) ≡ at + length ys
-front at ys xs le = omega (arith, length-append (take at xs) ys, length-take-le at xs le)
-
-pub length-over : {X : Type 0} (at : ℕ) (ys xs : List X) → at ≤ length xs → length (over at ys xs) ≡ max (length xs) (at + length ys)
-length-over at ys xs le = omega (arith, length-append (take at xs ++ ys) (drop (at + length ys) xs), front at ys xs le, length-drop (at + length ys) xs)
-
-pub take-over : {X : Type 0} (at : ℕ) (ys xs : List X) → at ≤ length xs → take at (over at ys xs) ≡ take at xs
-take-over at ys xs le = ap (λ l. take at l) (append_assoc (take at xs) ys (drop (at + length ys) xs)) ∙ take_at (take at xs) (ys ++ drop (at + length ys) xs) at (length-take-le at xs le)
+use Rattle.disk_store.specs.Laws.Over.{front-over, drop-over}
 
 pub take_to-over : {X : Type 0} (at : ℕ) (ys xs : List X) → at ≤ length xs → take (at + length ys) (over at ys xs) ≡ take at xs ++ ys
-take_to-over at ys xs le = take_at (take at xs ++ ys) (drop (at + length ys) xs) (at + length ys) (front at ys xs le)
-
-pub drop-over : {X : Type 0} (at : ℕ) (ys xs : List X) → at ≤ length xs → drop (at + length ys) (over at ys xs) ≡ drop (at + length ys) xs
-drop-over at ys xs le = drop_at (take at xs ++ ys) (drop (at + length ys) xs) (at + length ys) (front at ys xs le)
+take_to-over at ys xs le = take_at (take at xs ++ ys) (drop (at + length ys) xs) (at + length ys) (front-over at ys xs le)
 
 -- one range behind the other
 pub over-over : {X : Type 0} (at : ℕ) (ys zs xs : List X) → at ≤ length xs → over (at + length ys) zs (over at ys xs) ≡ over at (ys ++ zs) xs
@@ -45,30 +33,12 @@ over_place {X} place x xs lt =
     ∙ ap (λ (n : ℕ). take place xs ++ (x ∷ []) ++ drop n xs) next
 
 -- one place more is marked
-pub marked_more : (at place : ℕ) (old : List Bool) → at ≤ length old → at ≤ place → over place (true ∷ []) (over at (replicate (place - at) true) old) ≡ over at (replicate (place + 1 - at) true) old
-marked_more at place old le before =
+pub marked_more : (at place : ℕ) (mark : Bool) (old : List Bool) → at ≤ length old → at ≤ place → over place (mark ∷ []) (over at (replicate (place - at) mark) old) ≡ over at (replicate (place + 1 - at) mark) old
+marked_more at place mark old le before =
     let n = place - at in
-    let here : place ≡ at + length (replicate n true) = omega (arith, length-replicate n true) in
+    let here : place ≡ at + length (replicate n mark) = omega (arith, length-replicate n mark) in
     let more : n + 1 ≡ place + 1 - at = omega arith in
-    ap (λ (k : ℕ). over k (true ∷ []) (over at (replicate n true) old)) here
-    ∙ over-over at (replicate n true) (true ∷ []) old le
-    ∙ ap (λ (l : List Bool). over at l old) (replicate-append-replicate n 1 true)
-    ∙ ap (λ (k : ℕ). over at (replicate k true) old) more
-
--- the items before, within and behind the range that is replaced
-module _ {X : Type 0} (at : ℕ) (ys xs : List X) (le : at ≤ length xs) (place : ℕ) (d : X) where
-  pub over_before : place < at → get_or (over at ys xs) place d ≡ get_or xs place d
-  over_before lt =
-      get_or_append_left (take at xs ++ ys) (drop (at + length ys) xs) d place (omega (arith, front at ys xs le))
-      ∙ get_or_append_left (take at xs) ys d place (omega (arith, length-take-le at xs le)) ∙ get_or-take at xs place d lt
-
-  pub over_within : at ≤ place → place < at + length ys → get_or (over at ys xs) place d ≡ get_or ys (place - at) d
-  over_within ge lt =
-      get_or_append_left (take at xs ++ ys) (drop (at + length ys) xs) d place (omega (arith, front at ys xs le))
-      ∙ get_or-append_right (take at xs) ys at place d (length-take-le at xs le) ge
-
-  pub over_behind : at + length ys ≤ place → get_or (over at ys xs) place d ≡ get_or xs place d
-  over_behind ge =
-      let back : at + length ys + (place - (at + length ys)) ≡ place = omega arith in
-      get_or-append_right (take at xs ++ ys) (drop (at + length ys) xs) (at + length ys) place d (front at ys xs le) ge
-      ∙ get_or-drop (at + length ys) xs (place - (at + length ys)) d ∙ ap (λ (n : ℕ). get_or xs n d) back
+    ap (λ (k : ℕ). over k (mark ∷ []) (over at (replicate n mark) old)) here
+    ∙ over-over at (replicate n mark) (mark ∷ []) old le
+    ∙ ap (λ (l : List Bool). over at l old) (replicate-append-replicate n 1 mark)
+    ∙ ap (λ (k : ℕ). over at (replicate k mark) old) more

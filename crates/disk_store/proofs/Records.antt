@@ -5,7 +5,7 @@ use Rattle.disk_store.specs.Disk.{DiskState, IsImage, over, after_write, after_s
 use Rattle.disk_store.specs.Records.{disk_after, disks_before, bytes_written, ReadsAs}
 use Rattle.disk_store.specs.declared.history.Step.{Step}
 use Rattle.disk_store.specs.declared.history.Step.TheVariants.{Write, Sync}
-use Rattle.disk_store.proofs.Over.{length-over, over_before, over_within, over_behind}
+use Rattle.disk_store.specs.Laws.Over.{length-over, over_before, over_within, over_behind}
 use Rattle.std.proofs.lemmas.Bool.{cases_lt}
 
 -- the bytes of the first write stand before those of the change that is added

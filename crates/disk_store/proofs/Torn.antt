@@ -1,17 +1,9 @@
 -- What a write that failed may have done.
-use Rattle.std.proofs.Common.{ℕ, ◌≤◌, Some, List, length, inl, inr, refl}
-use Rattle.disk_store.specs.Disk.{DiskState, TornWrite, MayHaveWritten, after_write}
-use Rattle.disk_store.proofs.Over.{take-over, drop-over}
+use Rattle.std.proofs.Common.{ℕ, ◌≤◌, Some, List, length, inl, refl}
+use Rattle.disk_store.specs.Disk.{DiskState, MayHaveWritten, after_write}
+use Rattle.disk_store.specs.Laws.Writes.{write_is_torn}
 
 -- it was done
-pub write_is_torn : (at : ℕ) (from : List ℕ) (old : DiskState) → at ≤ length old.bytes → TornWrite at (length from) old (after_write at from old)
-write_is_torn at from old le = record {
-  synced = refl;
-  written = inr refl;
-  before = take-over at from old.bytes le;
-  behind = drop-over at from old.bytes le;
-}
-
 pub torn_write : (at : ℕ) (from : List ℕ) (old : DiskState) → at ≤ length old.bytes → MayHaveWritten at (length from) (Some old) (Some (after_write at from old))
 torn_write at from old le = (after_write at from old, refl, write_is_torn at from old le)
 

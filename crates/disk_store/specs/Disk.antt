@@ -1,5 +1,5 @@
 -- What a disk holds, and what a crash may leave of it.
-use Rattle.std.specs.Prelude.{◌≡◌, ◌⊎◌, ℕ, ◌+◌, ◌-◌, ◌<◌, ◌≤◌, min, Bool, true, false, List, ◌++◌, length, take, drop, replicate, slice_index, slice_index_or, Option, Some, None}
+use Rattle.std.specs.Prelude.{◌≡◌, ◌⊎◌, ℕ, ◌+◌, ◌-◌, ◌<◌, ◌≤◌, min, max, Bool, true, false, List, ◌++◌, length, take, drop, replicate, slice_index, slice_index_or, Option, Some, None}
 
 -- a disk at one moment
 pub record DiskState : Type 0 where
@@ -47,7 +47,14 @@ pub record TornWrite (at size : ℕ) (old new : DiskState) : Type 0 where
   pub before : take at new.bytes ≡ take at old.bytes
   pub behind : drop (at + size) new.bytes ≡ drop (at + size) old.bytes
 
--- the same, of a disk that may tell its contents or not
+-- an image of a disk at rest of which a range of `size` bytes is being written
+pub record TornFrom (at size : ℕ) (bytes image : List ℕ) : Type 0 where
+  pub no_shorter : length bytes ≤ length image
+  pub no_longer : length image ≤ max (length bytes) (at + size)
+  pub before : take at image ≡ take at bytes
+  pub behind : (place : ℕ) → at + size ≤ place → place < length bytes → slice_index image place ≡ slice_index bytes place
+
+-- the same as a torn write, of a disk that may tell its contents or not
 abbrev pub MayHaveWritten : ℕ → ℕ → Option DiskState → Option DiskState → Type 0
 MayHaveWritten at size None new = new ≡ None
 MayHaveWritten at size (Some old) new = (disk : DiskState) × (new ≡ Some disk) × TornWrite at size old disk

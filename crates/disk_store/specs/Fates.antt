@@ -1,6 +1,7 @@
 -- Which call of a disk in memory fails.
-use Rattle.std.specs.Prelude.{ℕ, ◌+◌, ◌-◌, ◌^◌, min, Bool, true, false, not, ◌||◌, List, Option, Some, None, ◌==◌, if◌then◌else◌}
+use Rattle.std.specs.Prelude.{ℕ, ◌-◌, Bool, true, false, not, ◌||◌, List, Option, Some, None, ◌==◌, if◌then◌else◌}
 use Rattle.std.specs.List.{list_any}
+use Rattle.outside_io.specs.Causes.{one_more}
 use Rattle.disk_store.specs.declared.fate.Script.{Script}
 use Rattle.disk_store.specs.declared.fate.Turn.{Turn}
 use Rattle.disk_store.specs.declared.fate.Turn.TheVariants.{Done, Stopped, Skipped}
@@ -31,10 +32,6 @@ abbrev pub succeeded : Turn → Bool
 succeeded Done = true
 succeeded Stopped = false
 succeeded Skipped = false
-
--- a number that stands still at the last that it can be
-abbrev pub one_more : ℕ → ℕ
-one_more count = min (count + 1) (2 ^ 64 - 1)
 
 -- the script once one call more has been made
 abbrev pub script_next : Option Script → Option Script

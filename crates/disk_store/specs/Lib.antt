@@ -7,3 +7,4 @@ pub mod Fates
 pub mod Memory
 pub mod Records
 pub mod Bench
+pub mod Laws

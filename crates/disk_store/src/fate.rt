@@ -1,9 +1,9 @@
 // Which calls of a disk in memory fail, and what a crash leaves.
 ghost use Rattle.std.specs.Prelude.{◌≡◌, ◌||◌, not, [], if◌then◌else◌, is_ok};
 ghost use Rattle.outside_io.specs.Causes.{IsCount};
-ghost use Rattle.disk_store.specs.Fates.{script_turn, script_next, succeeded, faults_next};
+ghost use Rattle.disk_store.specs.Fates.{script_turn, script_next, succeeded};
 
-use outside_io::Failed;
+use outside_io::{Failed, FaultCount};
 use std::alloc::Global;
 use std::marker::Model;
 
@@ -35,7 +35,7 @@ pub struct Script {
 }
 
 /// What becomes of one call.
-#[derive(Clone, Copy, Debug, PartialEq, Eq)]
+#[derive(Clone, Copy, PartialEq, Eq)]
 pub(crate) enum Turn {
     /// It is done and answers Ok.
     Done,
@@ -63,15 +63,18 @@ pub(crate) struct Fate {
     pub(crate) script: Option<Script>,
     fails: Vec<u64>,
     calls: u64,
-    faults: u64,
+    faults: FaultCount,
 }
 
 impl Model for Fate {
+    ghost use Rattle.outside_io.specs.Causes.{IsCount};
     ghost use Rattle.disk_store.specs.Fates.{FateState};
 
     ghost Value = { FateState };
 
     ghost view = { λ f. record { script = f.script; fails = f.fails.items; calls = f.calls; faults = f.faults } };
+
+    ghost invariant = { λ f. IsCount f.faults };
 }
 
 impl Fate {
@@ -85,7 +88,7 @@ impl Fate {
             script: None,
             fails: Vec::new(alloc),
             calls: 0,
-            faults: 0,
+            faults: FaultCount::new(),
         }
     }
 
@@ -140,7 +143,9 @@ impl Fate {
         let turn = turn_by(named, fits, self.script);
         self.calls = self.calls.saturating_add(1);
         self.script = one_call_later(self.script);
-        self.faults = faults_after(turn, self.faults);
+        if turn != Turn::Done {
+            self.faults.count_fault();
+        }
         turn
     }
 }
@@ -168,14 +173,5 @@ fn one_call_later(script: Option<Script>) -> Option<Script>
             left: script.left.saturating_sub(1),
             keep: script.keep,
         }),
-    }
-}
-
-fn faults_after(turn: Turn, faults: u64) -> u64
-    ensures { result ≡ faults_next turn faults }
-{
-    match turn {
-        Turn::Done => faults,
-        Turn::Stopped | Turn::Skipped => faults.saturating_add(1),
     }
 }

@@ -1,22 +1,23 @@
 // A disk that is a file.
 ghost use Rattle.std.specs.Prelude.{◌≡◌, ℕ, ◌≤◌, List, None, length, IfOk, IfSome, MatchResult};
-ghost use Rattle.outside_io.specs.Causes.{HasCause, IsCount};
-ghost use Rattle.disk_store.specs.Fates.{one_more};
+ghost use Rattle.outside_io.specs.Causes.{HasCause, IsCount, one_more};
 
 use crate::Disk;
-use outside_io::Failed;
+use outside_io::{Failed, FaultCount};
 use std::fs::{OpenFile, OpenOptions};
 use std::io::ErrorKind;
 use std::marker::Model;
 use std::os::unix::fs::FileExt;
+use std::path::Path;
 use std::rt::Files;
+use std::{fs, io};
 
 /// A file, read and written at places without a buffer. It does not tell its contents; it counts the calls
 /// that failed.
 #[derive(Drop)]
 pub struct FileDisk<R: Files> {
     file: R::File,
-    faults: u64,
+    faults: FaultCount,
 }
 
 impl<R: Files> Model for FileDisk<R> {
@@ -31,25 +32,18 @@ impl<R: Files> Model for FileDisk<R> {
 }
 
 impl<R: Files> FileDisk<R> {
-    /// The file at this path, made where it is missing; `Failed` where it cannot be opened.
+    /// The file at this path, made where it is missing; `Failed` where it cannot be opened, or where
+    /// its entry in its folder cannot be made durable.
     pub fn over(rt: &R, path: &str) -> Result<FileDisk<R>, Failed>
         ensures { IfOk result (λ disk. disk ≡ 0) }
     {
-        let mut options = OpenOptions::new();
-        options.read(true).write(true).create(true);
-        match options.open(rt, path) {
-            Ok(file) => Ok(FileDisk { file, faults: 0 }),
+        match open_durably(rt, path) {
+            Ok(file) => Ok(FileDisk {
+                file,
+                faults: FaultCount::new(),
+            }),
             Err(_) => Err(Failed),
         }
-    }
-
-    /// Raises the count of faults, up to its last value.
-    fn count_fault(&mut self) -> Failed
-        ensures next { self.new ≡ one_more self.old }
-        ensures count { IsCount self.old }
-    {
-        self.faults = self.faults.saturating_add(1);
-        Failed
     }
 }
 
@@ -74,7 +68,7 @@ where
     {
         match self.file.metadata() {
             Ok(metadata) => Ok(metadata.len()),
-            Err(_) => Err(self.count_fault()),
+            Err(_) => Err(self.faults.count_fault()),
         }
     }
 
@@ -86,7 +80,7 @@ where
     {
         match read_all_at(&self.file, at, into) {
             Some(count) => Ok(count),
-            None => Err(self.count_fault()),
+            None => Err(self.faults.count_fault()),
         }
     }
 
@@ -97,7 +91,7 @@ where
     {
         match self.file.write_all_at(from, at) {
             Ok(()) => Ok(()),
-            Err(_) => Err(self.count_fault()),
+            Err(_) => Err(self.faults.count_fault()),
         }
     }
 
@@ -106,19 +100,39 @@ where
         ensures count { IsCount self.new }
         ensures cause { HasCause self.old self.new result }
     {
-        match self.file.sync_all() {
+        match self.file.sync_data() {
             Ok(()) => Ok(()),
-            Err(_) => Err(self.count_fault()),
+            Err(_) => Err(self.faults.count_fault()),
         }
     }
 }
 
+/// Opens a file to read and write it, made where it is missing, and makes its entry in its folder durable.
+fn open_durably<R: Files>(rt: &R, path: &str) -> io::Result<R::File> {
+    let mut options = OpenOptions::new();
+    options.read(true).write(true).create(true);
+    let file = options.open(rt, path)?;
+    fs::open(rt, folder_of(path))?.sync_all()?;
+    Ok(file)
+}
+
+/// The path of the folder that a path names a file of.
+fn folder_of(path: &str) -> &str {
+    match Path::new(path).parent() {
+        Some(folder) if !folder.as_str().is_empty() => folder.as_str(),
+        _ => ".",
+    }
+}
+
 /// Reads from a place on until the buffer is full or the file ends; `None` where a read failed.
-pub(crate) fn read_all_at<F: FileExt>(file: &F, at: u64, into: &mut [u8]) -> Option<usize>
+fn read_all_at<F: FileExt>(file: &F, at: u64, into: &mut [u8]) -> Option<usize>
     ensures { IfSome result (λ count. count ≤ length into.new) }
 {
     let mut count = 0;
     for _ in 0..u64::MAX {
+        if count == into.len() {
+            return Some(count);
+        }
         match file.read_at(&mut into[count..], at.wrapping_add(count as u64)) {
             Ok(0) => return Some(count),
             Ok(more) => count += more,

@@ -11,6 +11,7 @@ mod memory;
 mod places;
 mod record;
 mod traits;
+mod window;
 
 pub use bench::Bench;
 pub use fate::{Keep, Script, Stop};
@@ -18,6 +19,3 @@ pub use file::FileDisk;
 pub use memory::MemDisk;
 pub use record::RecordDisk;
 pub use traits::Disk;
-
-#[cfg(test)]
-mod tests;

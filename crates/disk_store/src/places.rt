@@ -6,6 +6,7 @@ ghost use Rattle.disk_store.specs.Places.{Stored};
 
 use crate::Keep;
 use crate::cells::{mark, put_bytes};
+use crate::window::Window;
 use std::alloc::AllocError;
 use std::marker::Model;
 
@@ -14,6 +15,7 @@ pub(crate) struct Places {
     bytes: Vec<u8>,
     synced: Vec<u8>,
     written: Vec<bool>,
+    window: Window,
     room: u64,
 }
 
@@ -29,7 +31,7 @@ impl Model for Places {
     } };
 
     ghost invariant = { λ p. HasRoom (record { bytes = p.bytes.items; synced = p.synced.items; written = p.written.items })
-        p.room (vec_capacity p.bytes) (vec_capacity p.synced) (vec_capacity p.written) };
+        p.window p.room (vec_capacity p.bytes) (vec_capacity p.synced) (vec_capacity p.written) };
 }
 
 impl Places {
@@ -50,6 +52,7 @@ impl Places {
             bytes,
             synced,
             written,
+            window: Window::EMPTY,
             room,
         })
     }
@@ -76,15 +79,19 @@ impl Places {
         ensures image { IsImage self.new.disk self.new.disk.bytes }
     {
         put_bytes(&mut self.bytes, at as usize, from);
-        mark(&mut self.written, at as usize, from.len());
+        mark(&mut self.written, at as usize, from.len(), true);
+        self.window = self.window.widened(at as usize, at as usize + from.len());
     }
 
-    /// Makes all that was written durable.
+    /// Makes all that was written durable. It costs what was written since the last sync.
     pub(crate) fn sync(&mut self)
         ensures synced { self.new ≡ record { disk = after_sync self.old.disk; room = self.old.room } }
         ensures image { IsImage self.new.disk self.new.disk.bytes }
     {
-        settle(&self.bytes, &mut self.synced, &mut self.written);
+        let Window { low, high } = self.window;
+        put_bytes(&mut self.synced, low, &self.bytes[low..high]);
+        mark(&mut self.written, low, high - low, false);
+        self.window = Window::EMPTY;
     }
 
     /// Leaves one image, all of it synced.
@@ -103,6 +110,7 @@ impl Places {
             Keep::Byte(byte) => fill(&mut self.bytes, &self.written, byte),
         }
         settle(&self.bytes, &mut self.synced, &mut self.written);
+        self.window = Window::EMPTY;
     }
 
     /// Makes it empty.
@@ -113,6 +121,7 @@ impl Places {
         self.bytes.clear();
         self.synced.clear();
         self.written.clear();
+        self.window = Window::EMPTY;
     }
 
     /// Makes room for so many bytes past the end.

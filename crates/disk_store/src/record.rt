@@ -1,13 +1,12 @@
 // A disk in memory that tells all that it was.
 ghost use Rattle.std.specs.Prelude.{◌≡◌, ◌&&◌, ◌+◌, ◌-◌, ◌≤◌, ◌∷◌, [], ◌++◌, Some, None, length, IfOk, OnOk, OnErr, IsOk, is_ok, nat_lt, nat_le};
-ghost use Rattle.outside_io.specs.Causes.{HasCause, IsCount};
+ghost use Rattle.outside_io.specs.Causes.{HasCause, IsCount, one_more};
 ghost use Rattle.disk_store.specs.Disk.{IsImage, GivesBytes, MayHaveWritten, at_rest, after_write, after_sync};
-ghost use Rattle.disk_store.specs.Fates.{one_more};
 ghost use Rattle.disk_store.specs.Records.{RecordState};
 
 use crate::Disk;
 use crate::history::History;
-use outside_io::Failed;
+use outside_io::{Failed, FaultCount};
 use std::alloc::AllocError;
 use std::marker::Model;
 
@@ -15,10 +14,11 @@ use std::marker::Model;
 #[derive(Drop)]
 pub struct RecordDisk {
     history: History,
-    faults: u64,
+    faults: FaultCount,
 }
 
 impl Model for RecordDisk {
+    ghost use Rattle.outside_io.specs.Causes.{IsCount};
     ghost use Rattle.disk_store.specs.Disk.{IsImage};
     ghost use Rattle.disk_store.specs.Records.{RecordState};
 
@@ -32,7 +32,7 @@ impl Model for RecordDisk {
       faults = r.faults;
     } };
 
-    ghost invariant = { λ r. IsImage r.history.disk r.history.disk.bytes };
+    ghost invariant = { λ r. IsImage r.history.disk r.history.disk.bytes × IsCount r.faults };
 }
 
 impl RecordDisk {
@@ -42,7 +42,10 @@ impl RecordDisk {
         ensures { IfOk result (λ disk. disk ≡ record { past = []; disk = at_rest bytes.items; calls = calls; more = more; faults = 0 }) }
     {
         let history = History::new(bytes, calls, more)?;
-        Ok(RecordDisk { history, faults: 0 })
+        Ok(RecordDisk {
+            history,
+            faults: FaultCount::new(),
+        })
     }
 }
 
@@ -95,8 +98,7 @@ impl Disk for RecordDisk {
         ensures cause { HasCause self.old.faults self.new.faults result }
     {
         if !self.history.has_room(from.len()) {
-            self.faults = self.faults.saturating_add(1);
-            return Err(Failed);
+            return Err(self.faults.count_fault());
         }
         self.history.write(at, from);
         Ok(())
@@ -117,8 +119,7 @@ impl Disk for RecordDisk {
         ensures cause { HasCause self.old.faults self.new.faults result }
     {
         if !self.history.has_room(0) {
-            self.faults = self.faults.saturating_add(1);
-            return Err(Failed);
+            return Err(self.faults.count_fault());
         }
         self.history.sync();
         Ok(())

@@ -1,10 +1,10 @@
 -- What a reading finds, and what was read then.
-use Rattle.std.proofs.Common.{◌≡◌, ℕ, ◌+◌, ◌-◌, ◌<◌, ◌≤◌, List, [], ◌∷◌, ◌++◌, length, take, drop, Option, Some, None, Result, Ok, Err, IfSome, IfOk, refl, sym, ◌∙◌, ap, subst, arith, append_assoc, take-append-drop}
+use Rattle.std.proofs.Common.{◌≡◌, ℕ, ◌+◌, ◌<◌, ◌≤◌, List, [], ◌∷◌, ◌++◌, length, take, drop, Option, Some, None, Result, Ok, Err, IfSome, IfOk, refl, sym, ◌∙◌, ap, subst, arith, append_assoc, take-append-drop}
 use Rattle.std.specs.Option.{ForSome}
-use Rattle.std.proofs.lemmas.List.{drop-drop}
-use Rattle.disk_store.specs.Disk.{DiskState}
+use Rattle.std.proofs.lemmas.List.{drop-drop, take-take}
+use Rattle.disk_store.specs.Disk.{DiskState, GivesBytes}
 use Rattle.node_journal.specs.Frames.{length_bytes, HoldsFrame, IsReadTo, EndsAt}
-use Rattle.node_journal.specs.Heads.{HasLength}
+use Rattle.node_journal.specs.Gates.{HasLength}
 use Rattle.node_journal.specs.Positions.{Position}
 use Rattle.node_journal.specs.Reading.{Finds, ReadsOn, LeavesReady}
 use Rattle.node_journal.specs.Appending.{IsReady}
@@ -30,18 +30,31 @@ holds_frame bytes gate size payload has small fits is size_is =
       small = omega arith;
     }
 
+-- so many bytes and one more were read, of a disk that may tell its contents
+pub payload_whole : (state : Option DiskState) (at size count : ℕ) (into payload : List ℕ) → IfSome state (λ disk. GivesBytes disk.bytes at into count) → length into ≡ size + 1 → size < count
+    → payload ≡ take size into → IfSome state (λ disk. (at + size < length disk.bytes) × (payload ≡ take size (drop at disk.bytes)))
+payload_whole None at size count into payload gives sized more is = tt
+payload_whole (Some disk) at size count into payload gives sized more is = (
+  omega (arith, gives.counted),
+  is ∙ sym (take-take size count into (omega arith)) ∙ ap (take size) gives.given ∙ take-take size count (drop at disk.bytes) (omega arith),
+)
+
+-- fewer were read
+pub payload_short : (state : Option DiskState) (at size count : ℕ) (into : List ℕ) → IfSome state (λ disk. GivesBytes disk.bytes at into count) → length into ≡ size + 1 → count ≤ size
+    → IfSome state (λ disk. length disk.bytes ≤ at + size)
+payload_short None at size count into gives sized few = tt
+payload_short (Some disk) at size count into gives sized few = omega (arith, gives.counted)
+
 -- the frame that was read, of a disk that may tell its contents
-pub frame_found : (state : Option DiskState) (gate limit size total : ℕ) (payload : List ℕ) → ForSome state (λ disk. HasLength disk.bytes gate size) → size ≤ 20000000
-    → IfSome state (λ disk. total ≡ length disk.bytes) → size + 6 ≤ total - gate
-    → IfSome state (λ disk. gate + 5 + size ≤ length disk.bytes → Some payload ≡ Some (take size (drop (gate + 5) disk.bytes))) → length payload ≡ size
-    → IfSome state (λ disk. Finds disk.bytes (record { gate = gate; limit = limit }) (Ok (Frame (record { gate = gate + 5 + size; limit = limit }) gate payload)))
-frame_found None gate limit size total payload has small total_is fits read size_is = tt
-frame_found (Some disk) gate limit size total payload has small total_is fits read size_is =
-    let same : payload ≡ take size (drop (gate + 5) disk.bytes) = let some = read (omega (arith, total_is)) in cc in
-    let place : gate + 5 + size ≡ gate + 5 + length payload = omega arith in (
+pub frame_found : (state : Option DiskState) (gate limit size next : ℕ) (payload : List ℕ) → ForSome state (λ disk. HasLength disk.bytes gate size) → size ≤ 20000000 → next ≡ gate + 5 + size
+    → IfSome state (λ disk. (gate + 5 + size < length disk.bytes) × (payload ≡ take size (drop (gate + 5) disk.bytes))) → length payload ≡ size
+    → IfSome state (λ disk. Finds disk.bytes (record { gate = gate; limit = limit }) (Ok (Frame (record { gate = next; limit = limit }) gate payload)))
+frame_found None gate limit size next payload has small is read size_is = tt
+frame_found (Some disk) gate limit size next payload has small is read size_is =
+    let place : next ≡ gate + 5 + length payload = omega arith in (
       refl,
       ap (λ (n : ℕ). let p : Position = record { gate = n; limit = limit } in p) place,
-      holds_frame disk.bytes gate size payload (has disk refl) small (omega (arith, total_is)) same size_is,
+      holds_frame disk.bytes gate size payload (has disk refl) small (omega (arith, read.0)) read.1 size_is,
     )
 
 -- what was found joins what was read before

@@ -1,10 +1,10 @@
 -- What images stand for, and how that stays or grows.
-use Rattle.std.proofs.Common.{◌≡◌, ◌≢◌, ◌⊎◌, inl, inr, ℕ, ◌+◌, ◌-◌, ◌<◌, ◌≤◌, max, Bool, true, false, List, [], ◌∷◌, ◌++◌, length, take, drop, get_or, replicate, sym, ◌∙◌, ap, subst, arith, append_assoc, length-append, take-append-drop}
+use Rattle.std.proofs.Common.{◌≡◌, ◌≢◌, ◌⊎◌, inl, inr, ℕ, ◌+◌, ◌-◌, ◌<◌, ◌≤◌, max, List, [], ◌∷◌, ◌++◌, length, take, drop, get_or, sym, ◌∙◌, ap, subst, arith, append_assoc, length-append, take-append-drop}
 use Rattle.std.proofs.lemmas.Bool.{cases_eq, cases_lt}
-use Rattle.std.proofs.lemmas.List.{take_at, drop_at, take-take, get_or-take, get_or_at, ext_get_or, length-take-le, length-replicate, get_or-replicate, append-nil}
+use Rattle.std.proofs.lemmas.List.{take_at, drop_at, take-take, get_or-take, get_or_at, ext_get_or, length-take-le, append-nil}
 use Rattle.std.proofs.lemmas.List.Elements.{All-push}
-use Rattle.disk_store.specs.Disk.{DiskState, IsImage, TornWrite, at_rest, over}
-use Rattle.disk_store.proofs.Over.{length-over, take-over, over_before, over_within, over_behind}
+use Rattle.disk_store.specs.Disk.{DiskState, IsImage, EachImage, TornFrom, over}
+use Rattle.disk_store.specs.Laws.Over.{length-over, take-over, over_before, over_within, over_behind}
 use Rattle.node_journal.specs.Frames.{length_bytes, IsSmall, frame_of, frames, IsReadTo, EndsAt, HoldsFrame, StandsFor}
 use Rattle.node_journal.specs.Appending.{IsBeforeOrAfter, sealed}
 use Rattle.node_journal.proofs.Bytes.{length-length_bytes, length-frame_of}
@@ -22,12 +22,6 @@ length_frame payload = omega (arith, length-append (length_bytes (length payload
 
 pub size_read : (image : List ℕ) (gate : ℕ) (payloads : List (List ℕ)) → IsReadTo image gate payloads → length (frames payloads) ≡ gate
 size_read image gate payloads read = sym (ap length read.passed) ∙ length-take-le gate image (omega (arith, read.within))
-
--- lists whose first items are the same
-pub same_front : (n : ℕ) (xs ys : List ℕ) → n ≤ length xs → n ≤ length ys → ((i : ℕ) → i < n → get_or xs i 0 ≡ get_or ys i 0) → take n xs ≡ take n ys
-same_front n xs ys le_x le_y same =
-    ext_get_or 0 (take n xs) (take n ys) (length-take-le n xs le_x ∙ sym (length-take-le n ys le_y))
-    (λ i lt. let below : i < n = omega (arith, length-take-le n xs le_x) in get_or-take n xs i 0 below ∙ same i below ∙ sym (get_or-take n ys i 0 below))
 
 -- a frame behind the gate leads to the next gate
 pub read_more : (image : List ℕ) (gate : ℕ) (payload : List ℕ) (payloads : List (List ℕ)) → IsReadTo image gate payloads → HoldsFrame image gate payload
@@ -49,68 +43,6 @@ read_more image gate payload payloads read frame =
 pub ends_kept : (image image' : List ℕ) (gate : ℕ) (payloads : List (List ℕ)) → IsReadTo image gate payloads → take gate image' ≡ take gate image → gate < length image' → get_or image' gate 0 ≢ 1 → EndsAt image' gate payloads
 ends_kept image image' gate payloads read same within closed =
     record { read = record { passed = same ∙ read.passed; within = within; small = read.small }; closed = closed }
-
--- an image of a disk at rest of which a range is being written
-pub record TornFrom (at size : ℕ) (bytes image : List ℕ) : Type 0 where
-  pub no_shorter : length bytes ≤ length image
-  pub no_longer : length image ≤ max (length bytes) (at + size)
-  pub before : take at image ≡ take at bytes
-  pub behind : (place : ℕ) → at + size ≤ place → place < length bytes → get_or image place 0 ≡ get_or bytes place 0
-
-module _ (at size : ℕ) (bytes : List ℕ) (le : at ≤ length bytes) where
-  abbrev clean : List Bool
-  clean = replicate (length bytes) false
-
-  -- the marks of a write that was begun or not
-  abbrev Marks : List Bool → Type 0
-  Marks written = (written ≡ clean) ⊎ (written ≡ over at (replicate size true) clean)
-
-  size_clean : length clean ≡ length bytes
-  size_clean = length-replicate (length bytes) false
-
-  le_clean : at ≤ length clean
-  le_clean = omega (arith, size_clean)
-
-  size_range : length (replicate size true) ≡ size
-  size_range = length-replicate size true
-
-  unmarked : (place : ℕ) → place < length bytes → get_or clean place true ≡ false
-  unmarked place lt = get_or-replicate (length bytes) place false true lt
-
-  -- a place outside the range is not marked
-  unmarked_before : (written : List Bool) → Marks written → (place : ℕ) → place < at → get_or written place true ≡ false
-  unmarked_before written (inl same) place lt = ap (λ (l : List Bool). get_or l place true) same ∙ unmarked place (omega arith)
-  unmarked_before written (inr over') place lt =
-      ap (λ (l : List Bool). get_or l place true) over' ∙ over_before at (replicate size true) clean le_clean place true lt ∙ unmarked place (omega arith)
-
-  unmarked_behind : (written : List Bool) → Marks written → (place : ℕ) → at + size ≤ place → place < length bytes → get_or written place true ≡ false
-  unmarked_behind written (inl same) place ge lt = ap (λ (l : List Bool). get_or l place true) same ∙ unmarked place lt
-  unmarked_behind written (inr over') place ge lt =
-      ap (λ (l : List Bool). get_or l place true) over' ∙ over_behind at (replicate size true) clean le_clean place true (omega (arith, size_range)) ∙ unmarked place lt
-
-  size_marks : (written : List Bool) → Marks written → length written ≤ max (length bytes) (at + size)
-  size_marks written (inl same) = omega (arith, ap length same, size_clean)
-  size_marks written (inr over') = omega (arith, ap length over', length-over at (replicate size true) clean le_clean, size_clean, size_range)
-
-  -- each image of a disk with the write begun
-  pub torn_images : (disk : DiskState) (image : List ℕ) → TornWrite at size (at_rest bytes) disk → IsImage disk image → TornFrom at size bytes image
-  torn_images disk image torn is =
-      let synced : length disk.synced ≡ length bytes = ap length torn.synced in
-      let kept : (place : ℕ) → get_or disk.synced place 0 ≡ get_or bytes place 0 = λ place. ap (λ (l : List ℕ). get_or l place 0) torn.synced in
-      record {
-        no_shorter = omega (arith, is.no_shorter, synced);
-        no_longer = omega (arith, is.no_longer, size_marks disk.written torn.written);
-        before = same_front at image bytes (omega (arith, is.no_shorter, synced)) le
-            (λ place lt. is.unwritten place (omega (arith, synced)) (unmarked_before disk.written torn.written place lt) ∙ kept place);
-        behind = λ place ge lt. is.unwritten place (omega (arith, synced)) (unmarked_behind disk.written torn.written place ge lt) ∙ kept place;
-      }
-
--- a disk at rest has one image
-pub rest_images : (bytes image : List ℕ) → IsImage (at_rest bytes) image → image ≡ bytes
-rest_images bytes image is =
-    let size : length image ≡ length bytes = omega (arith, is.no_shorter, is.no_longer, length-replicate (length bytes) false) in
-    ext_get_or 0 image bytes size (λ place lt. let within : place < length bytes = omega (arith, size) in
-    is.unwritten place within (get_or-replicate (length bytes) place false true within))
 
 module _ (gate : ℕ) (payload bytes : List ℕ) (within : gate < length bytes) where
   abbrev pub staged : List ℕ
@@ -226,3 +158,12 @@ module _ (gate : ℕ) (payload bytes : List ℕ) (within : gate < length bytes) 
       let gate_same : get_or image gate 0 ≡ get_or bytes gate 0 =
       sym (get_or-take (gate + 1) image gate 0 (omega arith)) ∙ ap (λ (l : List ℕ). get_or l gate 0) torn.before ∙ get_or-take (gate + 1) bytes gate 0 (omega arith) in
       ends_kept bytes image gate payloads read same within' (λ is_open. closed (sym gate_same ∙ is_open))
+
+-- the gate behind a list stands where the list's frames end
+pub one_gate : (image : List ℕ) (gate : ℕ) (payloads : List (List ℕ)) → EndsAt image gate payloads → gate ≡ length (frames payloads)
+one_gate image gate payloads ends = sym (size_read image gate payloads ends.read)
+
+-- what a disk reads as is one of its images
+pub settled : (disk : DiskState) (payloads : List (List ℕ)) (payload : List ℕ) → EachImage disk (IsBeforeOrAfter payloads payload) → IsImage disk disk.bytes
+    → StandsFor disk.bytes payloads ⊎ StandsFor disk.bytes (payloads ++ payload ∷ [])
+settled disk payloads payload each reads = each disk.bytes reads

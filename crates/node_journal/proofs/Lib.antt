@@ -4,6 +4,6 @@ pub mod Images
 pub mod Lists
 pub mod Opens
 pub mod Founds
-pub mod HeadLemmas
+pub mod GateLemmas
 pub mod Stops
 pub mod Writing

@@ -7,11 +7,11 @@ use Rattle.std.proofs.lemmas.Bool.{cases_lt}
 use Rattle.std.proofs.lemmas.Bool.Decides.{nat_tests}
 use Rattle.disk_store.specs.Disk.{DiskState, IsImage, IsAtRest, at_rest, over, after_sync}
 use Rattle.disk_store.specs.Moments.{Elapses, AtEachMoment}
-use Rattle.disk_store.proofs.Moments.{Past, moments_call, moments_join, moments_weaker}
+use Rattle.disk_store.specs.Laws.Moments.{Past, moments_call, moments_join, moments_weaker}
 use Rattle.node_journal.specs.Frames.{IsSmall, frames, IsReadTo, StandsFor}
 use Rattle.node_journal.specs.Appending.{WhileWriting}
 use Rattle.node_journal.specs.Opening.{KeepsPayloads, opened}
-use Rattle.node_journal.proofs.Images.{torn_images, rest_images}
+use Rattle.disk_store.specs.Laws.Writes.{torn_images, rest_images}
 
 no_frames : (payloads : List (List ℕ)) → frames payloads ≡ [] → payloads ≡ []
 no_frames [] none = refl

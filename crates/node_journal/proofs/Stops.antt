@@ -1,36 +1,21 @@
 -- What a crash leaves after an `append` was stopped.
-use Rattle.std.proofs.Common.{◌≡◌, ◌≢◌, inl, inr, ℕ, ◌+◌, ◌-◌, ◌<◌, ◌≤◌, true, false, ◌==◌, nat_le, if◌then◌else◌, List, [], ◌∷◌, ◌++◌, length, get_or, replicate, Option, Some, option_map, IfSome, refl, sym, ◌∙◌, ap, subst, arith}
+use Rattle.std.proofs.Common.{◌≡◌, ◌≢◌, inl, inr, ℕ, ◌+◌, ◌-◌, ◌<◌, ◌≤◌, true, false, ◌==◌, nat_le, if◌then◌else◌, List, [], ◌∷◌, ◌++◌, length, get_or, replicate, Option, Some, option_map, IfSome, IsErrOf, refl, sym, ◌∙◌, ap, subst, arith}
 use Rattle.std.proofs.lemmas.Bool.{cases_eq, cases_lt}
 use Rattle.std.proofs.lemmas.Bool.Decides.{nat_tests}
 use Rattle.std.proofs.lemmas.List.{length-replicate}
-use Rattle.disk_store.specs.Disk.{DiskState, at_rest, over, after_write}
+use Rattle.disk_store.specs.Disk.{DiskState, TornFrom, at_rest, over, after_write}
 use Rattle.disk_store.specs.Crash.{kept}
-use Rattle.disk_store.specs.Records.{ReadsAs}
 use Rattle.disk_store.specs.Memory.{outlook_of, keep_of}
 use Rattle.disk_store.specs.declared.fate.Script.{Script}
 use Rattle.disk_store.specs.declared.fate.Keep.{Keep}
 use Rattle.disk_store.specs.declared.fate.Keep.TheVariants.{All, Nothing, Byte}
-use Rattle.disk_store.proofs.Over.{over_within, length-over}
-use Rattle.disk_store.proofs.Fill.{kept_image, fill_marked}
-use Rattle.disk_store.proofs.Records.{reads_write}
-use Rattle.disk_store.proofs.Torn.{write_is_torn}
+use Rattle.disk_store.specs.Laws.Over.{over_within, length-over}
+use Rattle.disk_store.specs.Laws.Crash.{kept_torn, fill_marked}
 use Rattle.node_journal.specs.Frames.{IsSmall, frame_of, IsReadTo, StandsFor}
 use Rattle.node_journal.specs.Appending.{IsReady, end_of, sealed, framed, stopped_at, failed_state, is_kept}
-use Rattle.node_journal.proofs.Images.{TornFrom, torn_images, staged, staged_before, staged_within, staged_gate, gate_opened, sealed_ends, frame_images, ends_kept}
-
-rest_reads : (bytes : List ℕ) → ReadsAs (at_rest bytes) bytes
-rest_reads bytes = record {
-  reads = refl;
-  marked = length-replicate (length bytes) false;
-  image = record { no_shorter = omega arith; no_longer = omega (arith, length-replicate (length bytes) false); unwritten = λ place within is. refl };
-}
-
--- what a crash leaves of a disk on which a write was begun or done
-kept_torn : (at : ℕ) (from bytes : List ℕ) (keep : Keep) → at ≤ length bytes → TornFrom at (length from) bytes (kept keep (after_write at from (at_rest bytes)))
-kept_torn at from bytes keep le =
-    let reads = reads_write (at_rest bytes) bytes (rest_reads bytes) at from le in
-    torn_images at (length from) bytes le (after_write at from (at_rest bytes)) (kept keep (after_write at from (at_rest bytes)))
-    (write_is_torn at from (at_rest bytes) le) (kept_image keep (after_write at from (at_rest bytes)) reads.image reads.marked)
+use Rattle.node_journal.specs.Laws.{StoppedDisk}
+use Rattle.node_journal.specs.declared.fault.JournalFault.TheVariants.{DiskFailed}
+use Rattle.node_journal.proofs.Images.{staged, staged_before, staged_within, staged_gate, gate_opened, sealed_ends, frame_images, ends_kept}
 
 module _ (gate : ℕ) (payload bytes : List ℕ) (within : gate < length bytes) (payloads : List (List ℕ)) (read : IsReadTo bytes gate payloads) (closed : get_or bytes gate 0 ≢ 1) (small : IsSmall payload) where
   -- the gate stays closed while the frame is written
@@ -123,15 +108,14 @@ stop_left [] room script gate payload old new failed none some fits fault left =
 stop_left (number ∷ fails) room script gate payload old new failed none some fits fault left = absurd (let clash = none in cc)
 
 -- a stop at one of the four calls, and then a crash by its script
-pub crash_stands : (fails : List ℕ) (room : ℕ) (script : Script) (after : Option Script) (gate : ℕ) (payload image : List ℕ) (old new : DiskState) (failed : Type 0)
-    → fails ≡ [] → 1 ≤ script.left → script.left ≤ 4 → end_of gate payload ≤ room → IsReady old gate → IsSmall payload → failed
-    → IfSome (outlook_of fails room (Some script)) (λ o. failed → Some new ≡ (if nat_le (end_of gate payload) o.room then option_map (failed_state o.failing gate payload) (Some old) else Some old))
-    → Some (keep_of after) ≡ Some script.keep → image ≡ kept (keep_of after) new
-    → (payloads : List (List ℕ)) → IsReadTo old.bytes gate payloads
-    → StandsFor image (if is_kept script.left script.keep then payloads ++ payload ∷ [] else payloads)
-crash_stands fails room script after gate payload image old new failed none some few fits ready small fault left keeps is payloads read =
-    let keep_is : keep_of after ≡ script.keep = cc in
-    let new_is : new ≡ stopped_at script.left gate payload old = stop_left fails room script gate payload old new failed none some fits fault left in
-    let whole : image ≡ kept script.keep (stopped_at script.left gate payload old) = is ∙ ap (λ (keep : Keep). kept keep new) keep_is ∙ ap (kept script.keep) new_is in
+pub stopped_disk : StoppedDisk
+stopped_disk old new script gate payload payloads result none is some few fits ready read small fault left keeps =
+    let keep_is : keep_of new.fate.script ≡ script.keep = let same : keep_of new.fate.script ≡ keep_of old.fate.script = cc in same ∙ ap keep_of is in
+    let left' = subst (λ (s : Option Script). IfSome (outlook_of old.fate.fails old.room s) (λ o. IsErrOf result DiskFailed → Some new.disk ≡
+    (if nat_le (end_of gate payload) o.room then option_map (failed_state o.failing gate payload) (Some old.disk) else Some old.disk))) is left in
+    let new_is : new.disk ≡ stopped_at script.left gate payload old.disk =
+    stop_left old.fate.fails old.room script gate payload old.disk new.disk (IsErrOf result DiskFailed) none some fits fault left' in
+    let whole : kept (keep_of new.fate.script) new.disk ≡ kept script.keep (stopped_at script.left gate payload old.disk) =
+    ap (λ (keep : Keep). kept keep new.disk) keep_is ∙ ap (kept script.keep) new_is in
     subst (λ (l : List ℕ). StandsFor l (if is_kept script.left script.keep then payloads ++ payload ∷ [] else payloads)) (sym whole)
-    (stopped_stands script.left gate script.keep payload payloads old some few ready read small)
+    (stopped_stands script.left gate script.keep payload payloads old.disk some few ready read small)

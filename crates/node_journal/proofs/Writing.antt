@@ -3,8 +3,8 @@ use Rattle.std.proofs.Common.{◌≡◌, ◌⊎◌, inl, inr, ℕ, ◌≤◌, Li
 use Rattle.std.specs.Option.{ForSome}
 use Rattle.disk_store.specs.Disk.{DiskState, MayHaveWritten, after_write, after_sync}
 use Rattle.disk_store.specs.Moments.{Elapses, AtEachMoment}
-use Rattle.disk_store.proofs.Moments.{Past, moments_call, moments_join}
-use Rattle.disk_store.proofs.Torn.{write_is_torn}
+use Rattle.disk_store.specs.Laws.Moments.{Past, moments_call, moments_join}
+use Rattle.disk_store.specs.Laws.Writes.{write_is_torn}
 use Rattle.node_journal.specs.Appending.{WhileWriting}
 
 -- what a call did, by what it answered

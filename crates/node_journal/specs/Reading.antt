@@ -1,5 +1,5 @@
 -- What a reading finds at its gate.
-use Rattle.std.specs.Prelude.{◌≡◌, ◌≢◌, ℕ, ◌+◌, ◌<◌, List, [], ◌∷◌, ◌++◌, length, slice_index, Result, Ok, Err}
+use Rattle.std.specs.Prelude.{◌≡◌, ◌≢◌, ℕ, ◌+◌, ◌^◌, ◌<◌, List, [], ◌∷◌, ◌++◌, length, slice_index, Result, Ok, Err}
 use Rattle.node_journal.specs.Frames.{HoldsFrame, LeadsNowhere, IsReadTo, EndsAt}
 use Rattle.node_journal.specs.Appending.{IsReady}
 use Rattle.disk_store.specs.Disk.{DiskState, IsAtRest}
@@ -29,3 +29,9 @@ ReadsOn bytes payloads (Err fault) = Unit {0}
 abbrev pub LeavesReady : Found → DiskState → Type 0
 LeavesReady (Frame reading place payload) disk = reading.gate < length disk.bytes
 LeavesReady (Last journal) disk = IsAtRest disk → IsReady disk journal.gate
+
+-- a frame leads to the gate behind it, which stands at a place of 64 bits; the end stays where it is
+abbrev pub Advances : Position → Found → Type 0
+Advances here (Frame reading place payload) =
+    (place ≡ here.gate) × (reading ≡ record { gate = here.gate + 5 + length payload; limit = here.limit }) × (reading.gate < 2 ^ 64)
+Advances here (Last journal) = journal ≡ here

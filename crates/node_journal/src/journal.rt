@@ -1,7 +1,7 @@
-ghost use Rattle.std.specs.Prelude.{◌≡◌, ◌⊎◌, ◌↔◌, ◌&&◌, ◌+◌, ◌<◌, ◌≤◌, ◌∷◌, [], ◌++◌, List, ℕ, Some, length, option_map, is_ok, nat_le, if◌then◌else◌, IfSome, IfOk, IfErr, OnOk, OnErr, IsErrOf};
+ghost use Rattle.std.specs.Prelude.{◌≡◌, ◌⊎◌, ◌↔◌, ◌&&◌, ◌+◌, ◌<◌, ◌≤◌, ◌∷◌, [], ◌++◌, List, ℕ, Some, length, option_map, is_ok, is_some, nat_le, if◌then◌else◌, IfSome, IfOk, IfErr, OnOk, OnErr, IsErrOf};
 ghost use Rattle.std.specs.Option.{ForSome};
 ghost use Rattle.outside_io.specs.Causes.{IsCount, Rose};
-ghost use Rattle.disk_store.specs.Disk.{EachImage, at_rest};
+ghost use Rattle.disk_store.specs.Disk.{IsImage, EachImage, at_rest};
 ghost use Rattle.disk_store.specs.Outlook.{never, outlook_next};
 ghost use Rattle.disk_store.specs.Moments.{AtEachMoment};
 ghost use Rattle.node_journal.specs.Frames.{IsSmall, IsReadTo, EndsAt};
@@ -47,6 +47,11 @@ impl Journal {
         // At every moment each image stands for the payloads before, or for them and the new one.
         ensures any_moment { IfSome (D.state disk.old) (λ d. (payloads : List (List ℕ)) → IsReadTo d.bytes self.gate payloads →
             AtEachMoment (D.past disk.old) (D.past disk.new) (D.state disk.new) (λ t. EachImage t (IsBeforeOrAfter payloads frame.now))) }
+
+        // At each exit the disk reads as one of its images, and tells what it told.
+        ensures image { IfSome (D.state disk.new) (λ d. IsImage d d.bytes) }
+        ensures told { is_some (D.state disk.new) ≡ is_some (D.state disk.old) }
+        ensures room { option_map (λ o. o.room) (D.outlook disk.new) ≡ option_map (λ o. o.room) (D.outlook disk.old) }
 
         ensures small { IsSmall frame.now }
         ensures full { (result ≡ Err JournalFault.JournalFull) ↔ (self.limit < end_of self.gate frame.now) }

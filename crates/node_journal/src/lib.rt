@@ -5,7 +5,7 @@
 mod device;
 mod fault;
 mod framed;
-mod head;
+mod gate;
 mod journal;
 pub mod laws;
 mod next;

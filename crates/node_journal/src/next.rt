@@ -1,13 +1,14 @@
-ghost use Rattle.std.specs.Prelude.{◌≡◌, ◌≢◌, ◌⊎◌, ◌+◌, ◌<◌, ◌≤◌, List, ℕ, Some, length, take, drop, IfSome, IfOk, IfErr, IsErr, IsErrOf};
+ghost use Rattle.std.specs.Prelude.{◌≡◌, ◌≢◌, ◌⊎◌, ◌+◌, ◌^◌, ◌<◌, ◌≤◌, List, ℕ, Some, length, take, drop, option_map, IfSome, IfNone, IfOk, IfErr, IsErr, IsErrOf};
 ghost use Rattle.std.specs.Option.{ForSome};
 ghost use Rattle.outside_io.specs.Causes.{IsCount, Rose};
+ghost use Rattle.disk_store.specs.Disk.{IsImage};
 ghost use Rattle.disk_store.specs.Outlook.{never};
 ghost use Rattle.node_journal.specs.Frames.{IsReadTo};
-ghost use Rattle.node_journal.specs.Heads.{HasLength};
-ghost use Rattle.node_journal.specs.Reading.{Finds, ReadsOn, LeavesReady};
+ghost use Rattle.node_journal.specs.Gates.{HasLength};
+ghost use Rattle.node_journal.specs.Reading.{Finds, ReadsOn, LeavesReady, Advances};
 
 use crate::framed::PAYLOAD_LIMIT;
-use crate::head::{Head, read_head};
+use crate::gate::{Gate, read_gate};
 use crate::{Found, Journal, JournalFault, Reading};
 use disk_store::Disk;
 use helios_model::Bytes;
@@ -23,7 +24,11 @@ impl Reading {
         ensures read_on { IfSome (D.state disk.old) (λ d. (payloads : List (List ℕ)) → IsReadTo d.bytes self.gate payloads → ReadsOn d.bytes payloads result) }
 
         ensures ready { IfOk result (λ found. ForSome (D.state disk.new) (λ d. LeavesReady found d)) }
+        // Each frame leads on, whatever the disk tells.
+        ensures forward { IfOk result (λ found. Advances self found) }
 
+        ensures image { IfSome (D.state disk.new) (λ d. IsImage d d.bytes) }
+        ensures room { option_map (λ o. o.room) (D.outlook disk.new) ≡ option_map (λ o. o.room) (D.outlook disk.old) }
         ensures same { D.state disk.new ≡ D.state disk.old }
         ensures same_past { D.past disk.new ≡ D.past disk.old }
         ensures not_full { result ≢ Err JournalFault.JournalFull }
@@ -35,13 +40,13 @@ impl Reading {
         ensures failed { IfSome (D.outlook disk.old) (λ o. IsErrOf result JournalFault.DiskFailed → o.failing ≢ never) }
         ensures quiet { IfSome (D.outlook disk.old) (λ o. o.failing ≡ never → D.outlook disk.new ≡ Some o) }
     {
-        match read_head(disk, self.gate)? {
-            Head::Closed => Ok(Found::Last(Journal {
+        match read_gate(disk, self.gate)? {
+            Gate::Closed => Ok(Found::Last(Journal {
                 gate: self.gate,
                 limit: self.limit,
             })),
-            Head::Cut => Err(JournalFault::Damaged { at: self.gate }),
-            Head::Length(size) => self.read_frame(alloc, disk, u64::from(size)),
+            Gate::Cut => Err(JournalFault::Damaged { at: self.gate }),
+            Gate::Length(size) => self.read_frame(alloc, disk, u64::from(size)),
         }
     }
 
@@ -52,8 +57,11 @@ impl Reading {
         disk: &mut D,
         size: u64,
     ) -> Result<Found, JournalFault>
-        requires { ForSome (D.state disk.old) (λ d. HasLength d.bytes self.gate size) }
+        requires length { ForSome (D.state disk.old) (λ d. HasLength d.bytes self.gate size) }
+        requires bounded { size < 2 ^ 32 }
         ensures found { IfSome (D.state disk.old) (λ d. Finds d.bytes self result) }
+        ensures forward { IfOk result (λ found. Advances self found) }
+        ensures room { option_map (λ o. o.room) (D.outlook disk.new) ≡ option_map (λ o. o.room) (D.outlook disk.old) }
         ensures same { D.state disk.new ≡ D.state disk.old }
         ensures same_past { D.past disk.new ≡ D.past disk.old }
         ensures not_full { result ≢ Err JournalFault.JournalFull }
@@ -69,13 +77,15 @@ impl Reading {
         if size > PAYLOAD_LIMIT {
             return Err(damaged);
         }
-        if disk.len()?.saturating_sub(self.gate) < size + 6 {
+        let Some(end) = self.gate.checked_add(size + 6) else {
+            // It would end behind every place that the disk's length can name.
+            let _length = disk.len()?;
             return Err(damaged);
-        }
+        };
         match read_payload(alloc, disk, self.gate + 5, size as usize)? {
             Some(payload) => Ok(Found::Frame {
                 reading: Reading {
-                    gate: self.gate + 5 + size,
+                    gate: end - 1,
                     limit: self.limit,
                 },
                 at: self.gate,
@@ -86,15 +96,19 @@ impl Reading {
     }
 }
 
-/// Reads so many bytes; `None` where the disk gives fewer.
+/// Reads so many bytes where one more stands behind them; `None` where the disk gives fewer.
+#[tactic(auto, using(crate::proofs::Founds::payload_whole, crate::proofs::Founds::payload_short))]
 fn read_payload<D: Disk>(
     alloc: Global,
     disk: &mut D,
     at: u64,
     size: usize,
 ) -> Result<Option<Bytes>, JournalFault>
-    ensures bytes { IfOk result (λ found. IfSome (D.state disk.old) (λ d. at + size ≤ length d.bytes → found ≡ Some (take size (drop at d.bytes)))) }
+    requires { size ≤ 20000000 }
+    ensures whole { IfOk result (λ found. IfSome found (λ payload. IfSome (D.state disk.old) (λ d. (at + size < length d.bytes) × (payload ≡ take size (drop at d.bytes))))) }
+    ensures short { IfOk result (λ found. IfNone found (IfSome (D.state disk.old) (λ d. length d.bytes ≤ at + size))) }
     ensures size { IfOk result (λ found. IfSome found (λ payload. length payload ≡ size)) }
+    ensures room { option_map (λ o. o.room) (D.outlook disk.new) ≡ option_map (λ o. o.room) (D.outlook disk.old) }
     ensures same { D.state disk.new ≡ D.state disk.old }
     ensures same_past { D.past disk.new ≡ D.past disk.old }
     ensures faults { IfErr result (λ fault. (fault ≡ JournalFault.DiskFailed) ⊎ (fault ≡ JournalFault.NoMemory)) }
@@ -106,11 +120,13 @@ fn read_payload<D: Disk>(
     ensures failed { IfSome (D.outlook disk.old) (λ o. IsErrOf result JournalFault.DiskFailed → o.failing ≢ never) }
     ensures quiet { IfSome (D.outlook disk.old) (λ o. o.failing ≡ never → D.outlook disk.new ≡ Some o) }
 {
-    let mut bytes = Vec::with_capacity(alloc, size)?;
-    bytes.resize(size, 0)?;
+    // The byte behind the payload is the next gate: so the disk need not be asked for its length.
+    let mut bytes = Vec::with_capacity(alloc, size + 1)?;
+    bytes.resize(size + 1, 0)?;
     let count = disk.read_at(at, &mut bytes)?;
-    if count < size {
+    if count <= size {
         return Ok(None);
     }
+    bytes.truncate(size);
     Ok(Some(Bytes::new(bytes)))
 }

@@ -1,7 +1,7 @@
-ghost use Rattle.std.specs.Prelude.{◌≡◌, ◌≢◌, ◌⊎◌, ◌^◌, ◌<◌, ◌≤◌, [], Some, length, option_map, IfSome, IfOk, IfErr, IsErr, OnOk, IsErrOf};
+ghost use Rattle.std.specs.Prelude.{◌≡◌, ◌≢◌, ◌⊎◌, ◌^◌, ◌<◌, ◌≤◌, [], Some, length, option_map, is_some, IfSome, IfOk, IfErr, IsErr, OnOk, IsErrOf};
 ghost use Rattle.std.specs.Option.{ForSome};
 ghost use Rattle.outside_io.specs.Causes.{HasCause, IsCount, Rose};
-ghost use Rattle.disk_store.specs.Disk.{IsAtRest, at_rest};
+ghost use Rattle.disk_store.specs.Disk.{IsImage, IsAtRest, at_rest};
 ghost use Rattle.disk_store.specs.Outlook.{never};
 ghost use Rattle.disk_store.specs.Moments.{AtEachMoment};
 ghost use Rattle.node_journal.specs.Frames.{IsReadTo};
@@ -37,6 +37,11 @@ impl Journal {
         ensures any_moment_at_rest { IfSome (D.state disk.old) (λ d. IsAtRest d →
             AtEachMoment (D.past disk.old) (D.past disk.new) (D.state disk.new) (λ t. KeepsPayloads d t)) }
 
+        // At each exit the disk reads as one of its images, and tells what it told.
+        ensures image { IfSome (D.state disk.new) (λ d. IsImage d d.bytes) }
+        ensures told { is_some (D.state disk.new) ≡ is_some (D.state disk.old) }
+        ensures room { option_map (λ o. o.room) (D.outlook disk.new) ≡ option_map (λ o. o.room) (D.outlook disk.old) }
+
         ensures faults { IfErr result (λ fault. fault ≡ JournalFault.DiskFailed) }
         ensures later { D.faults disk.old ≤ D.faults disk.new }
         ensures keeps { D.keeps disk.new ≡ D.keeps disk.old }
@@ -46,16 +51,19 @@ impl Journal {
         ensures failed { IfSome (D.outlook disk.old) (λ o. IsErr result → (o.failing ≢ never) ⊎ (o.room ≡ 0)) }
         ensures quiet { IfSome (D.outlook disk.old) (λ o. o.failing ≡ never → D.outlook disk.new ≡ Some o) }
     {
-        settle(disk)?;
+        ensure_first_gate(disk)?;
         Ok(Reading { gate: 0, limit })
     }
 }
 
 /// Makes what the disk reads as durable, and makes the first gate where there are at most one byte.
-fn settle<D: Disk>(disk: &mut D) -> Result<(), Failed>
+fn ensure_first_gate<D: Disk>(disk: &mut D) -> Result<(), Failed>
     ensures opened { OnOk result (D.state disk.new ≡ option_map (λ d. at_rest (opened d.bytes)) (D.state disk.old)) }
     ensures any_moment { IfSome (D.state disk.old) (λ d.
         AtEachMoment (D.past disk.old) (D.past disk.new) (D.state disk.new) (λ t. (t ≡ d) ⊎ KeepsPayloads d t)) }
+    ensures image { IfSome (D.state disk.new) (λ d. IsImage d d.bytes) }
+    ensures told { is_some (D.state disk.new) ≡ is_some (D.state disk.old) }
+    ensures room { option_map (λ o. o.room) (D.outlook disk.new) ≡ option_map (λ o. o.room) (D.outlook disk.old) }
     ensures keeps { D.keeps disk.new ≡ D.keeps disk.old }
     ensures count { IsCount (D.faults disk.new) }
     ensures cause { HasCause (D.faults disk.old) (D.faults disk.new) result }

@@ -1,9 +1,13 @@
 -- When a call to the outside may answer that it failed, and what no call changes.
 use Rattle.std.specs.Prelude.{◌≡◌, ℕ, ◌+◌, ◌-◌, ◌^◌, ◌≤◌, min, Option, Result, is_some, OnErr, OnOk}
 
+-- one more; a count stands still at the last number that a `u64` can be
+abbrev pub one_more : ℕ → ℕ
+one_more count = min (count + 1) (2 ^ 64 - 1)
+
 -- a count of faults has risen since `before`, or stands at the last number that it can be
 abbrev pub Rose : ℕ → ℕ → Type 0
-Rose before now = min (before + 1) (2 ^ 64 - 1) ≤ now
+Rose before now = one_more before ≤ now
 
 -- a count of faults never falls: where the call failed it rose, and where it did not it stands
 pub record HasCause {T E : Type 0} (before now : ℕ) (result : Result T E) : Type 0 where

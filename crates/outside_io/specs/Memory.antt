@@ -1,5 +1,5 @@
 -- What the sources and sinks in memory hold.
-use Rattle.std.specs.Prelude.{ℕ, ◌+◌, ◌-◌, ◌^◌, List, min}
+use Rattle.std.specs.Prelude.{ℕ, ◌+◌, ◌^◌, List, min}
 
 -- a source in memory: the bytes still to come, the most that one read gives, the numbers of the
 -- calls that fail, how many calls have come, and how many faults were counted
@@ -23,7 +23,3 @@ pub record MemoryOutput : Type 0 where
 -- one call more; the count stands still at 2^64, which no number of a call that fails can be
 abbrev pub next_call : ℕ → ℕ
 next_call calls = min (calls + 1) (2 ^ 64)
-
--- one fault more; the count stands still at its last number
-abbrev pub next_fault : ℕ → ℕ
-next_fault faults = min (faults + 1) (2 ^ 64 - 1)

@@ -3,18 +3,18 @@
 #![tactic(auto)]
 
 mod failed;
+mod failing_calls;
+mod fault_count;
 mod memory_sink;
 mod memory_source;
 mod quiet;
-mod script;
 mod system;
-#[cfg(test)]
-mod tests;
 mod traits;
 mod unread;
 mod whole;
 
 pub use failed::Failed;
+pub use fault_count::FaultCount;
 pub use memory_sink::MemSink;
 pub use memory_source::MemSource;
 pub use quiet::{NullSink, QuietSource};

@@ -1,9 +1,9 @@
 ghost use Rattle.std.specs.Prelude.{◌≡◌, ◌<◌, ◌≤◌, ◌↔◌, ◌⊎◌, ◌-◌, ◌++◌, [], Some, length, min, take, IsErr, IfOk, MatchResult, Contains};
 ghost use Rattle.std.specs.Io.KnownBytes.{WriteAppends};
-ghost use Rattle.outside_io.specs.Causes.{HasCause, IsCount, StaysTold};
-ghost use Rattle.outside_io.specs.Memory.{next_call, next_fault};
+ghost use Rattle.outside_io.specs.Causes.{HasCause, IsCount, StaysTold, one_more};
+ghost use Rattle.outside_io.specs.Memory.{next_call};
 
-use crate::script::Script;
+use crate::failing_calls::FailingCalls;
 use crate::{Failed, Sink};
 use std::alloc::{AllocError, Global};
 use std::marker::Model;
@@ -16,12 +16,13 @@ pub struct MemSink {
     bytes: Vec<u8>,
     room: usize,
     piece: usize,
-    script: Script,
+    failing: FailingCalls,
 }
 
 impl Model for MemSink {
     ghost use Rattle.std.specs.Prelude.{◌<◌, ◌≤◌, ◌+◌, ◌^◌, vec_len, vec_capacity};
     ghost use Rattle.std.specs.Option.{unwrap_or};
+    ghost use Rattle.outside_io.specs.Causes.{IsCount};
     ghost use Rattle.outside_io.specs.Memory.{MemoryOutput};
 
     ghost Value = { MemoryOutput };
@@ -30,12 +31,13 @@ impl Model for MemSink {
       taken = s.bytes.items;
       room = s.room;
       piece = s.piece;
-      fails = s.script.fails.items;
-      calls = unwrap_or s.script.next (2 ^ 64);
-      faults = s.script.faults;
+      fails = s.failing.fails.items;
+      calls = unwrap_or s.failing.next (2 ^ 64);
+      faults = s.failing.faults;
     } };
 
-    ghost invariant = { λ s. (vec_len s.bytes + s.room ≤ vec_capacity s.bytes) × (0 < s.piece) };
+    ghost invariant = { λ s. (vec_len s.bytes + s.room ≤ vec_capacity s.bytes) × (0 < s.piece) ×
+        IsCount s.failing.faults };
 }
 
 impl MemSink {
@@ -60,7 +62,7 @@ impl MemSink {
             bytes: Vec::with_capacity(alloc, room)?,
             room,
             piece,
-            script: Script::new(fails),
+            failing: FailingCalls::new(fails),
         })
     }
 
@@ -75,14 +77,12 @@ impl MemSink {
     pub fn faults(&self) -> u64
         ensures { result ≡ self.now.faults }
     {
-        self.script.faults()
+        self.failing.faults()
     }
 }
 
 impl Sink for MemSink {
-    ghost taken = { λ s. Some s.taken };
-
-    ghost faults = { λ s. s.faults };
+    ghost seen = { λ s. record { taken = Some s.taken; faults = s.faults } };
 
     fn write(&mut self, from: &[u8]) -> Result<usize, Failed>
         ensures fails { IsErr result ↔
@@ -97,7 +97,7 @@ impl Sink for MemSink {
             })
             (λ _. self.new ≡ record self.old {
               calls = next_call self.old.calls;
-              faults = next_fault self.old.faults;
+              faults = one_more self.old.faults;
             }) }
 
         ensures bound { IfOk result (λ n. n ≤ length from.now) }
@@ -107,10 +107,11 @@ impl Sink for MemSink {
         ensures count { IsCount self.new.faults }
         ensures cause { HasCause self.old.faults self.new.faults result }
     {
-        let is_failing = self.script.is_failing();
-        if is_failing || (self.room == 0 && !from.is_empty()) {
-            self.script.count_fault();
-            return Err(Failed);
+        if self.failing.is_failing() {
+            return Err(self.failing.count_fault());
+        }
+        if self.room == 0 && !from.is_empty() {
+            return Err(self.failing.count_fault());
         }
         let count = self.piece.min(from.len().min(self.room));
         self.bytes.extend_from_slice(&from[..count]).unwrap();

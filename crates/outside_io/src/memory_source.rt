@@ -1,11 +1,11 @@
 ghost use Rattle.std.specs.Prelude.{◌≡◌, ◌<◌, ◌↔◌, ◌++◌, Some, length, min, take, drop, IsErr, IfOk, OnErr, MatchResult, Contains};
 ghost use Rattle.std.specs.Io.{ReadsAtMost};
 ghost use Rattle.std.specs.Io.KnownBytes.{ReadConsumes};
-ghost use Rattle.outside_io.specs.Causes.{HasCause, IsCount, StaysTold};
-ghost use Rattle.outside_io.specs.Memory.{next_call, next_fault};
+ghost use Rattle.outside_io.specs.Causes.{HasCause, IsCount, StaysTold, one_more};
+ghost use Rattle.outside_io.specs.Memory.{next_call};
 
-use crate::script::Script;
-use crate::unread::Unread;
+use crate::failing_calls::FailingCalls;
+use crate::unread::UnreadBytes;
 use crate::{Failed, Source};
 use std::marker::Model;
 
@@ -13,13 +13,14 @@ use std::marker::Model;
 /// the calls whose numbers, from 0, it was given.
 #[derive(Drop)]
 pub struct MemSource {
-    unread: Unread,
+    unread: UnreadBytes,
     piece: usize,
-    script: Script,
+    failing: FailingCalls,
 }
 
 impl Model for MemSource {
     ghost use Rattle.std.specs.Prelude.{◌<◌, ◌^◌};
+    ghost use Rattle.outside_io.specs.Causes.{IsCount};
     ghost use Rattle.std.specs.Option.{unwrap_or};
     ghost use Rattle.outside_io.specs.Memory.{MemoryInput};
 
@@ -28,12 +29,12 @@ impl Model for MemSource {
     ghost view = { λ s. record {
       left = s.unread;
       piece = s.piece;
-      fails = s.script.fails.items;
-      calls = unwrap_or s.script.next (2 ^ 64);
-      faults = s.script.faults;
+      fails = s.failing.fails.items;
+      calls = unwrap_or s.failing.next (2 ^ 64);
+      faults = s.failing.faults;
     } };
 
-    ghost invariant = { λ s. 0 < s.piece };
+    ghost invariant = { λ s. (0 < s.piece) × IsCount s.failing.faults };
 }
 
 impl MemSource {
@@ -48,9 +49,9 @@ impl MemSource {
         } }
     {
         MemSource {
-            unread: Unread::new(bytes),
+            unread: UnreadBytes::new(bytes),
             piece,
-            script: Script::new(fails),
+            failing: FailingCalls::new(fails),
         }
     }
 
@@ -65,14 +66,12 @@ impl MemSource {
     pub fn faults(&self) -> u64
         ensures { result ≡ self.now.faults }
     {
-        self.script.faults()
+        self.failing.faults()
     }
 }
 
 impl Source for MemSource {
-    ghost left = { λ s. Some s.left };
-
-    ghost faults = { λ s. s.faults };
+    ghost seen = { λ s. record { left = Some s.left; faults = s.faults } };
 
     fn read(&mut self, into: &mut [u8]) -> Result<usize, Failed>
         ensures fails { IsErr result ↔ Contains self.old.fails self.old.calls }
@@ -87,7 +86,7 @@ impl Source for MemSource {
             })
             (λ _. self.new ≡ record self.old {
               calls = next_call self.old.calls;
-              faults = next_fault self.old.faults;
+              faults = one_more self.old.faults;
             }) }
 
         ensures bound { ReadsAtMost result into.new }
@@ -96,9 +95,8 @@ impl Source for MemSource {
         ensures count { IsCount self.new.faults }
         ensures cause { HasCause self.old.faults self.new.faults result }
     {
-        if self.script.is_failing() {
-            self.script.count_fault();
-            return Err(Failed);
+        if self.failing.is_failing() {
+            return Err(self.failing.count_fault());
         }
         Ok(self.unread.read(into, self.piece))
     }

@@ -3,14 +3,14 @@ ghost use Rattle.std.specs.Io.{ReadsAtMost};
 ghost use Rattle.std.specs.Io.KnownBytes.{ReadConsumes, WriteAppends};
 ghost use Rattle.outside_io.specs.Causes.{HasCause, IsCount, StaysTold};
 
-use crate::unread::Unread;
+use crate::unread::UnreadBytes;
 use crate::{Failed, Sink, Source};
 use std::marker::Model;
 
 /// A source over bytes in memory that gives as many as the buffer has room for, and never fails.
 #[derive(Drop)]
 pub struct QuietSource {
-    unread: Unread,
+    unread: UnreadBytes,
 }
 
 impl Model for QuietSource {
@@ -26,7 +26,7 @@ impl QuietSource {
         ensures { result ≡ bytes.items }
     {
         QuietSource {
-            unread: Unread::new(bytes),
+            unread: UnreadBytes::new(bytes),
         }
     }
 
@@ -39,9 +39,7 @@ impl QuietSource {
 }
 
 impl Source for QuietSource {
-    ghost left = { λ s. Some s };
-
-    ghost faults = { λ _. 0 };
+    ghost seen = { λ s. record { left = Some s; faults = 0 } };
 
     fn read(&mut self, into: &mut [u8]) -> Result<usize, Failed>
         ensures amount { result ≡ Ok (min (length into.old) (length self.old)) }
@@ -72,9 +70,7 @@ impl NullSink {
 }
 
 impl Sink for NullSink {
-    ghost taken = { λ _. None };
-
-    ghost faults = { λ _. 0 };
+    ghost seen = { λ _. record { taken = None; faults = 0 } };
 
     fn write(&mut self, from: &[u8]) -> Result<usize, Failed>
         ensures amount { result ≡ Ok (length from.now) }

@@ -1,10 +1,9 @@
 ghost use Rattle.std.specs.Prelude.{◌≡◌, ℕ, ◌<◌, ◌≤◌, List, None, length, IfOk, IfSome, MatchResult};
 ghost use Rattle.std.specs.Io.{ReadsAtMost};
 ghost use Rattle.std.specs.Io.KnownBytes.{ReadConsumes, WriteAppends};
-ghost use Rattle.outside_io.specs.Causes.{HasCause, IsCount, StaysTold};
-ghost use Rattle.outside_io.specs.Memory.{next_fault};
+ghost use Rattle.outside_io.specs.Causes.{HasCause, IsCount, StaysTold, one_more};
 
-use crate::{Failed, Sink, Source};
+use crate::{Failed, FaultCount, Sink, Source};
 use std::io::{ErrorKind, Read};
 use std::marker::Model;
 
@@ -13,7 +12,7 @@ use std::marker::Model;
 pub struct StdSource<'a, R: Input> {
     rt: &'a R,
     reader: R::Reader,
-    faults: u64,
+    faults: FaultCount,
 }
 
 impl<'a, R: Input> Model for StdSource<'a, R> {
@@ -35,20 +34,18 @@ impl<'a, R: Input> StdSource<'a, R> {
         StdSource {
             rt,
             reader: rt.reader(),
-            faults: 0,
+            faults: FaultCount::new(),
         }
     }
 }
 
 impl<'a, R: Input> Source for StdSource<'a, R> {
-    ghost left = { λ _. None };
-
-    ghost faults = { λ s. s };
+    ghost seen = { λ s. record { left = None; faults = s } };
 
     fn read(&mut self, into: &mut [u8]) -> Result<usize, Failed>
         ensures after { MatchResult result
             (λ _. self.new ≡ self.old)
-            (λ _. self.new ≡ next_fault self.old) }
+            (λ _. self.new ≡ one_more self.old) }
 
         ensures bound { ReadsAtMost result into.new }
         ensures bytes { ReadConsumes None None result into.new }
@@ -58,16 +55,13 @@ impl<'a, R: Input> Source for StdSource<'a, R> {
     {
         match read_once(&mut self.reader, into) {
             Some(count) => Ok(count),
-            None => {
-                self.faults = self.faults.saturating_add(1);
-                Err(Failed)
-            }
+            None => Err(self.faults.count_fault()),
         }
     }
 }
 
 /// Reads, and again where a signal came between; `None` where the read failed.
-pub(crate) fn read_once<R: Read>(reader: &mut R, into: &mut [u8]) -> Option<usize>
+fn read_once<R: Read>(reader: &mut R, into: &mut [u8]) -> Option<usize>
     ensures { IfSome result (λ n. n ≤ length into.new) }
 {
     for _ in 0..u64::MAX {
@@ -84,7 +78,7 @@ pub(crate) fn read_once<R: Read>(reader: &mut R, into: &mut [u8]) -> Option<usiz
 #[derive(Drop)]
 pub struct StdSink<'a, R: Print> {
     rt: &'a R,
-    faults: u64,
+    faults: FaultCount,
 }
 
 impl<'a, R: Print> Model for StdSink<'a, R> {
@@ -103,19 +97,20 @@ impl<'a, R: Print> StdSink<'a, R> {
     pub fn over(rt: &'a R) -> StdSink<'a, R>
         ensures { result ≡ 0 }
     {
-        StdSink { rt, faults: 0 }
+        StdSink {
+            rt,
+            faults: FaultCount::new(),
+        }
     }
 }
 
 impl<'a, R: Print> Sink for StdSink<'a, R> {
-    ghost taken = { λ _. None };
-
-    ghost faults = { λ s. s };
+    ghost seen = { λ s. record { taken = None; faults = s } };
 
     fn write(&mut self, from: &[u8]) -> Result<usize, Failed>
         ensures after { MatchResult result
             (λ _. self.new ≡ self.old)
-            (λ _. self.new ≡ next_fault self.old) }
+            (λ _. self.new ≡ one_more self.old) }
 
         ensures bound { IfOk result (λ n. n ≤ length from.now) }
         ensures progress { IfOk result (λ n. 0 < length from.now → 0 < n) }
@@ -126,16 +121,13 @@ impl<'a, R: Print> Sink for StdSink<'a, R> {
     {
         match write_once(self.rt, from) {
             Some(count) if count > 0 || from.is_empty() => Ok(count),
-            _ => {
-                self.faults = self.faults.saturating_add(1);
-                Err(Failed)
-            }
+            _ => Err(self.faults.count_fault()),
         }
     }
 }
 
 /// Writes, and again where a signal came between; `None` where the write failed.
-pub(crate) fn write_once<R: Print>(rt: &R, from: &[u8]) -> Option<usize>
+fn write_once<R: Print>(rt: &R, from: &[u8]) -> Option<usize>
     ensures { IfSome result (λ n. n ≤ length from.now) }
 {
     for _ in 0..u64::MAX {

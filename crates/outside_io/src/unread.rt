@@ -4,12 +4,12 @@ use std::marker::Model;
 
 /// Bytes in memory of which a front has been read.
 #[derive(Drop)]
-pub(crate) struct Unread {
+pub(crate) struct UnreadBytes {
     bytes: Vec<u8>,
     at: usize,
 }
 
-impl Model for Unread {
+impl Model for UnreadBytes {
     ghost use Rattle.std.specs.Prelude.{ℕ, ◌≤◌, List, drop, vec_len};
 
     ghost Value = { List ℕ };
@@ -19,11 +19,11 @@ impl Model for Unread {
     ghost invariant = { λ s. s.at ≤ vec_len s.bytes };
 }
 
-impl Unread {
-    pub(crate) fn new(bytes: Vec<u8>) -> Unread
+impl UnreadBytes {
+    pub(crate) fn new(bytes: Vec<u8>) -> UnreadBytes
         ensures { result ≡ bytes.items }
     {
-        Unread { bytes, at: 0 }
+        UnreadBytes { bytes, at: 0 }
     }
 
     pub(crate) fn as_slice(&self) -> &[u8]

@@ -57,18 +57,20 @@ pub fn read_whole<S: Source>(
     limit: usize,
 ) -> Result<Option<Vec<u8>>, InputError>
     ensures whole { IfOk result (λ found. IfSome found (λ v.
-        IsWholeInput (S.left source.old) (S.left source.new) v.items)) }
+        IsWholeInput (S.seen source.old).left (S.seen source.new).left v.items)) }
     ensures fits { IfOk result (λ found. IfSome found (λ v. vec_len v ≤ limit)) }
-    ensures over { IfOk result (λ found. IfNone found (IsOverLimit limit (S.left source.old))) }
+    ensures over { IfOk result (λ found.
+        IfNone found (IsOverLimit limit (S.seen source.old).left)) }
     ensures failed { IsErrOf result InputError.Failed →
-        Rose (S.faults source.old) (S.faults source.new) }
-    ensures steady { IsErrOf result InputError.Failed ⊎ (S.faults source.new ≡ S.faults source.old) }
-    ensures later { S.faults source.old ≤ S.faults source.new }
-    ensures count { IsCount (S.faults source.old) → IsCount (S.faults source.new) }
-    ensures most { TakesAtMost (limit + 1) (S.left source.old) (S.left source.new) }
+        Rose (S.seen source.old).faults (S.seen source.new).faults }
+    ensures steady { IsErrOf result InputError.Failed ⊎
+        ((S.seen source.new).faults ≡ (S.seen source.old).faults) }
+    ensures later { (S.seen source.old).faults ≤ (S.seen source.new).faults }
+    ensures count { IsCount (S.seen source.old).faults → IsCount (S.seen source.new).faults }
+    ensures most { TakesAtMost (limit + 1) (S.seen source.old).left (S.seen source.new).left }
     ensures unasked { IsErrOf result InputError.Failed →
-        TakesAtMost limit (S.left source.old) (S.left source.new) }
-    ensures tells { StaysTold (S.left source.old) (S.left source.new) }
+        TakesAtMost limit (S.seen source.old).left (S.seen source.new).left }
+    ensures tells { StaysTold (S.seen source.old).left (S.seen source.new).left }
 {
     let mut bytes = Vec::new(alloc);
     let mut buffer = vec![in alloc; 0u8; PIECE]?;
@@ -93,19 +95,20 @@ fn read_piece<S: Source>(
     bytes: &mut Vec<u8>,
 ) -> Result<usize, InputError>
     requires { most ≤ length buffer.old }
-    ensures gives { IfOk result (λ n.
-        HasGrown (S.left source.old) (S.left source.new) bytes.old.items bytes.new.items n) }
+    ensures gives { IfOk result (λ n. HasGrown (S.seen source.old).left (S.seen source.new).left
+        bytes.old.items bytes.new.items n) }
     ensures len { IfOk result (λ n. (n ≤ most) × (vec_len bytes.new ≡ vec_len bytes.old + n)) }
-    ensures end { IfOk result (λ n. n ≡ 0 → 0 < most → IsAtEnd (S.left source.new)) }
-    ensures most { TakesAtMost most (S.left source.old) (S.left source.new) }
+    ensures end { IfOk result (λ n. n ≡ 0 → 0 < most → IsAtEnd (S.seen source.new).left) }
+    ensures most { TakesAtMost most (S.seen source.old).left (S.seen source.new).left }
     ensures unmoved { IsErrOf result InputError.Failed →
-        TakesAtMost 0 (S.left source.old) (S.left source.new) }
+        TakesAtMost 0 (S.seen source.old).left (S.seen source.new).left }
     ensures failed { IsErrOf result InputError.Failed →
-        Rose (S.faults source.old) (S.faults source.new) }
-    ensures steady { IsErrOf result InputError.Failed ⊎ (S.faults source.new ≡ S.faults source.old) }
-    ensures later { S.faults source.old ≤ S.faults source.new }
-    ensures count { IsCount (S.faults source.new) }
-    ensures tells { StaysTold (S.left source.old) (S.left source.new) }
+        Rose (S.seen source.old).faults (S.seen source.new).faults }
+    ensures steady { IsErrOf result InputError.Failed ⊎
+        ((S.seen source.new).faults ≡ (S.seen source.old).faults) }
+    ensures later { (S.seen source.old).faults ≤ (S.seen source.new).faults }
+    ensures count { IsCount (S.seen source.new).faults }
+    ensures tells { StaysTold (S.seen source.old).left (S.seen source.new).left }
 {
     let piece = &mut buffer[..most];
     let count = source.read(piece)?;
@@ -116,11 +119,11 @@ fn read_piece<S: Source>(
 /// Writes the whole text, in as many writes as the sink needs; none for a text that is empty.
 /// Where a write fails, a front of the text has been written and nothing else.
 pub fn write_whole<K: Sink>(sink: &mut K, text: &[u8]) -> Result<(), Failed>
-    ensures ok { OnOk result (Appends (K.taken sink.old) (K.taken sink.new) text.now) }
-    ensures prefix { AppendsPrefix (K.taken sink.old) (K.taken sink.new) text.now }
-    ensures count { IsCount (K.faults sink.old) → IsCount (K.faults sink.new) }
-    ensures cause { HasCause (K.faults sink.old) (K.faults sink.new) result }
-    ensures tells { StaysTold (K.taken sink.old) (K.taken sink.new) }
+    ensures ok { OnOk result (Appends (K.seen sink.old).taken (K.seen sink.new).taken text.now) }
+    ensures prefix { AppendsPrefix (K.seen sink.old).taken (K.seen sink.new).taken text.now }
+    ensures count { IsCount (K.seen sink.old).faults → IsCount (K.seen sink.new).faults }
+    ensures cause { HasCause (K.seen sink.old).faults (K.seen sink.new).faults result }
+    ensures tells { StaysTold (K.seen sink.old).taken (K.seen sink.new).taken }
     ensures empty { text.now ≡ [] → IsOk result × (sink.new ≡ sink.old) }
 {
     let mut rest = text;

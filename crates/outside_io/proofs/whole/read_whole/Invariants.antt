@@ -5,11 +5,11 @@ use Rattle.outside_io.proofs.whole.read_whole.Given as goal
 
 abbrev pub invariant-loop-buffer : goal.invariant-loop-buffer
 invariant-loop-buffer g l = record {
-  taken : Consumes (g.S.Source.left l.initial.source) (g.S.Source.left l.source) l.bytes.items;
-  tells : StaysTold (g.S.Source.left l.initial.source) (g.S.Source.left l.source);
+  taken : Consumes (g.S.Source.seen l.initial.source).left (g.S.Source.seen l.source).left l.bytes.items;
+  tells : StaysTold (g.S.Source.seen l.initial.source).left (g.S.Source.seen l.source).left;
   fits : vec_len l.bytes ≤ l.limit;
-  steady : g.S.Source.faults l.source ≡ g.S.Source.faults l.initial.source;
-  count : IsCount (g.S.Source.faults l.initial.source) → IsCount (g.S.Source.faults l.source);
+  steady : (g.S.Source.seen l.source).faults ≡ (g.S.Source.seen l.initial.source).faults;
+  count : IsCount (g.S.Source.seen l.initial.source).faults → IsCount (g.S.Source.seen l.source).faults;
   room : vec_len l.buffer ≡ vec_len l.initial.buffer;
 }
 

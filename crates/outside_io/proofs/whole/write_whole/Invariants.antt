@@ -5,10 +5,10 @@ use Rattle.outside_io.proofs.whole.write_whole.Given as goal
 
 abbrev pub invariant-loop-rest : goal.invariant-loop-rest
 invariant-loop-rest g l = record {
-  so_far : HasWritten (g.K.Sink.taken l.initial.sink) (g.K.Sink.taken l.sink) l.text l.rest;
-  tells : StaysTold (g.K.Sink.taken l.initial.sink) (g.K.Sink.taken l.sink);
-  steady : g.K.Sink.faults l.sink ≡ g.K.Sink.faults l.initial.sink;
-  count : IsCount (g.K.Sink.faults l.initial.sink) → IsCount (g.K.Sink.faults l.sink);
+  so_far : HasWritten (g.K.Sink.seen l.initial.sink).taken (g.K.Sink.seen l.sink).taken l.text l.rest;
+  tells : StaysTold (g.K.Sink.seen l.initial.sink).taken (g.K.Sink.seen l.sink).taken;
+  steady : (g.K.Sink.seen l.sink).faults ≡ (g.K.Sink.seen l.initial.sink).faults;
+  count : IsCount (g.K.Sink.seen l.initial.sink).faults → IsCount (g.K.Sink.seen l.sink).faults;
   empty : l.text ≡ [] → (l.sink ≡ l.initial.sink) × (l.rest ≡ []);
 }
 

@@ -3,7 +3,7 @@ use Rattle.disk_store.specs.Disk.{DiskState, at_rest, after_write}
 use Rattle.disk_store.specs.Records.{Recorded, disk_after, bytes_written, ReadsAs}
 use Rattle.disk_store.specs.declared.history.Step.TheVariants.{Write}
 use Rattle.disk_store.proofs.Records.{after_one_write, written_more, reads_write, reads_image}
-use Rattle.disk_store.proofs.Over.{length-over}
+use Rattle.disk_store.specs.Laws.Over.{length-over}
 use Rattle.disk_store.proofs.history.History.write.Goals as goal
 
 module _ (c : goal.After-self-2-1) where

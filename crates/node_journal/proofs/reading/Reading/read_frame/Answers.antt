@@ -1,11 +1,11 @@
-use Rattle.std.proofs.Common.{◌≤◌, ◌+◌, ◌-◌, arith}
+use Rattle.std.proofs.Common.{◌≡◌, ◌+◌, ◌-◌, arith}
 use Rattle.node_journal.proofs.Founds.{frame_found}
 use Rattle.node_journal.proofs.reading.Reading.read_frame.Goals as goal
 
-pub returns-in-Some-clause-found : goal.returns-in-Some-clause-found
-returns-in-Some-clause-found g c =
-    let fits : c.args.size + 6 ≤ c.in_ok-len.field-0 - c.self.inside.gate = omega (arith, c.if-saturating_sub-size.false, c.saturating_sub.ensures) in
+pub returns-in-Some-2-clause-found : goal.returns-in-Some-2-clause-found
+returns-in-Some-2-clause-found g c =
+    let next : c.in-Some.end - 1 ≡ c.self.inside.gate + 5 + c.args.size = omega (arith, c.in-Some.ensures) in
     rw (← c.self.view_is)
-    (frame_found (g.D.Disk.state c.args.disk.now) c.self.inside.gate c.self.inside.limit c.args.size c.in_ok-len.field-0 c.in-Some.payload
-    (rw (← c.self.view_is) at c.requires) c.if-size-gt-PAYLOAD_LIMIT.false c.in_ok-len.ensures.length fits
-    (rw (c.in-Some.is, c.len.ensures.same) at c.in_ok-payload.ensures.bytes) (rw c.in-Some.is at c.in_ok-payload.ensures.size))
+    (frame_found (g.D.Disk.state c.args.disk.now) c.self.inside.gate c.self.inside.limit c.args.size (c.in-Some.end - 1) c.in-Some-2.payload
+    (rw (← c.self.view_is) at c.requires.length) c.if-size-gt-PAYLOAD_LIMIT.false next
+    (rw c.in-Some-2.is at c.in_ok-payload.ensures.whole) (rw c.in-Some-2.is at c.in_ok-payload.ensures.size))
