@@ -1,3 +1,5 @@
+pub mod Commands
+pub mod Inputs
 pub mod Items
 pub mod Runs
 pub mod OneSite
