@@ -1,3 +1,5 @@
+pub mod Commands
+pub mod Inputs
 pub mod Runs
 pub mod OneSite
 pub mod Replayable

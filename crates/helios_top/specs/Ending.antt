@@ -1,15 +1,16 @@
--- The status and the text of each end of a run.
-use Rattle.std.specs.Prelude.{ℕ, List, [], ◌∷◌, ◌++◌, codes, decimal}
+-- The status and the text of each end of a run, and what is written of it.
+use Rattle.std.specs.Prelude.{◌≡◌, ℕ, ◌⊎◌, List, [], ◌∷◌, ◌++◌, codes}
+use Rattle.std.specs.Io.KnownBytes.{Appends}
 use Rattle.commit_offsets.specs.Lines as plan
 use Rattle.rtt_matrix.specs.Lines as matrix
-use Rattle.plan_certificate.specs.declared.verdict.Verdict.{Verdict}
-use Rattle.plan_certificate.specs.declared.verdict.Verdict.TheVariants as verdicts
+use Rattle.outside_io.specs.Causes.{Rose}
+use Rattle.outside_io.specs.Seen.{SinkSeen}
+use Rattle.outside_io.specs.Whole.{AppendsPrefix}
 use Rattle.helios_top.specs.declared.ending.Refusal.{Refusal}
-use Rattle.helios_top.specs.declared.ending.Refusal.TheVariants.{OfMatrix, OfPlan, Unbuilt}
-use Rattle.helios_top.specs.declared.ending.Answer.{Answer}
-use Rattle.helios_top.specs.declared.ending.Answer.TheVariants.{Judged, Printed, Refused}
+use Rattle.helios_top.specs.declared.ending.Refusal.TheVariants.{OfMatrix, OfPlan, TooLarge, Unbuilt}
 use Rattle.helios_top.specs.declared.ending.Ending.{Ending}
-use Rattle.helios_top.specs.declared.ending.Ending.TheVariants.{Usage, ReadFault, NoMemory, TooLarge, Answered}
+use Rattle.helios_top.specs.declared.ending.Ending.TheVariants.{Usage, ReadFault, NoMemory, Refused, Printed, Judged}
+use Rattle.helios_top.specs.Verdicts.{verdict_status, verdict_text}
 
 -- the text, and one line feed
 abbrev pub line : List ℕ → List ℕ
@@ -17,48 +18,48 @@ line text = text ++ 10 ∷ []
 
 -- the name of a refusal, with its numbers
 abbrev pub refusal_text : Refusal → List ℕ
+refusal_text TooLarge = codes "too-large"
 refusal_text Unbuilt = codes "unbuilt"
 refusal_text (OfPlan refusal) = plan.refusal_text refusal
 refusal_text (OfMatrix refusal) = matrix.refusal_text refusal
-
--- a verdict, with its numbers
-abbrev pub verdict_text : Verdict → List ℕ
-verdict_text (verdicts.Optimal total) = codes "optimal " ++ decimal total
-verdict_text (verdicts.Short i j) = codes "short " ++ decimal i ++ codes " " ++ decimal j
-verdict_text (verdicts.NoPairing i) = codes "no-pairing " ++ decimal i
-verdict_text (verdicts.ValueDiffers given value) = codes "value-differs " ++ decimal given ++ codes " " ++ decimal value
-
--- 0 for a plan that is optimal, 9 for any other
-abbrev pub verdict_status : Verdict → ℕ
-verdict_status (verdicts.Optimal total) = 0
-verdict_status (verdicts.Short i j) = 9
-verdict_status (verdicts.NoPairing i) = 9
-verdict_status (verdicts.ValueDiffers given value) = 9
-
--- the exit status of each answer
-abbrev pub answer_status : Answer → ℕ
-answer_status (Printed text) = 0
-answer_status (Judged verdict) = verdict_status verdict
-answer_status (Refused refusal) = 5
-
--- all that is written for each answer
-abbrev pub answer_text : Answer → List ℕ
-answer_text (Printed text) = text
-answer_text (Judged verdict) = line (verdict_text verdict)
-answer_text (Refused refusal) = line (codes "refused " ++ refusal_text refusal)
 
 -- the exit status of each end
 abbrev pub status_of : Ending → ℕ
 status_of Usage = 1
 status_of ReadFault = 2
 status_of NoMemory = 4
-status_of TooLarge = 5
-status_of (Answered answer) = answer_status answer
+status_of (Refused refusal) = 5
+status_of (Printed text) = 0
+status_of (Judged verdict) = verdict_status verdict
 
 -- all that is written for each end
 unfoldable pub text_of : Ending → List ℕ
 text_of Usage = line (codes "usage: helios COMMAND [WORDS]")
 text_of ReadFault = line (codes "fault read")
 text_of NoMemory = line (codes "fault memory")
-text_of TooLarge = line (codes "refused too-large")
-text_of (Answered answer) = answer_text answer
+text_of (Refused refusal) = line (codes "refused " ++ refusal_text refusal)
+text_of (Printed text) = text
+text_of (Judged verdict) = line (verdict_text verdict)
+
+-- the end is the command's own answer: no fault, no refusal
+abbrev pub IsDone : Ending → Type 0
+IsDone Usage = ⊥
+IsDone ReadFault = ⊥
+IsDone NoMemory = ⊥
+IsDone (Refused refusal) = ⊥
+IsDone (Printed text) = Unit {0}
+IsDone (Judged verdict) = Unit {0}
+
+-- the text was written whole, and the status is the one that is due; or a write failed, a front of the text was written, and the
+-- status is 3
+abbrev pub WroteText : SinkSeen → SinkSeen → List ℕ → ℕ → ℕ → Type 0
+WroteText old new text due status =
+    ((status ≡ due) × Appends old.taken new.taken text) ⊎ ((status ≡ 3) × Rose old.faults new.faults × AppendsPrefix old.taken new.taken text)
+
+-- so it was with the end's own text and status
+abbrev pub Wrote : SinkSeen → SinkSeen → Ending → ℕ → Type 0
+Wrote old new ending status = WroteText old new (text_of ending) (status_of ending) status
+
+-- or, where there was no memory for that text, with those of want of memory
+abbrev pub Came : SinkSeen → SinkSeen → Ending → ℕ → Type 0
+Came old new ending status = Wrote old new ending status ⊎ Wrote old new NoMemory status

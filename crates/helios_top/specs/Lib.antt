@@ -1,6 +1,11 @@
-pub mod Answer
+pub mod Answers
 pub mod Ending
+pub mod Inputs
+pub mod IsRun
+pub mod Outside
 pub mod Reading
-pub mod Run
-pub mod Words
+pub mod Refusals
+pub mod Runs
 pub mod Stepping
+pub mod Verdicts
+pub mod Words

@@ -1,5 +1,6 @@
 ghost use Rattle.std.specs.Prelude.{◌≡◌, Some, IfOk, string_bytes};
-ghost use Rattle.helios_top.specs.Ending.{answer_status, answer_text, refusal_text, status_of, text_of, verdict_status, verdict_text};
+ghost use Rattle.helios_top.specs.Ending.{refusal_text, status_of, text_of};
+ghost use Rattle.helios_top.specs.Verdicts.{verdict_status, verdict_text};
 
 use commit_offsets::PlanRefusal;
 use helios_model::Bytes;
@@ -12,26 +13,17 @@ use std::fmt;
 #[derive(Clone, Copy, Debug, PartialEq, Eq)]
 pub struct Status(pub u8);
 
-/// Why an input that was read is not accepted.
+/// Why an input is not accepted.
 #[derive(Clone, Copy, Debug, PartialEq, Eq)]
 pub enum Refusal {
+    /// The input has more bytes than a command reads.
+    TooLarge,
     /// The input is in no form that is built.
     Unbuilt,
     /// The text of a plan breaks a rule.
     OfPlan(PlanRefusal),
     /// The text of a matrix breaks a rule.
     OfMatrix(MatrixRefusal),
-}
-
-/// What a command comes to over an input that it read whole.
-#[derive(Debug, Drop)]
-pub enum Answer {
-    /// The text that the command prints.
-    Printed(Bytes),
-    /// The verdict on a plan.
-    Judged(Verdict),
-    /// The input is not accepted.
-    Refused(Refusal),
 }
 
 /// How a run ends.
@@ -43,10 +35,12 @@ pub enum Ending {
     ReadFault,
     /// There was no memory.
     NoMemory,
-    /// The input has more bytes than a command reads.
-    TooLarge,
-    /// The input was read, and this is the answer to it.
-    Answered(Answer),
+    /// The command refuses its input.
+    Refused(Refusal),
+    /// The text that the command prints.
+    Printed(Bytes),
+    /// The verdict on a plan.
+    Judged(Verdict),
 }
 
 impl fmt::Display for Refusal {
@@ -54,6 +48,7 @@ impl fmt::Display for Refusal {
 
     fn fmt<W: fmt::Write>(&self, f: &mut fmt::Formatter<W>) -> fmt::Result {
         match self {
+            Refusal::TooLarge => write!(f, "too-large"),
             Refusal::Unbuilt => write!(f, "unbuilt"),
             Refusal::OfPlan(refusal) => write!(f, "{refusal}"),
             Refusal::OfMatrix(refusal) => write!(f, "{refusal}"),
@@ -91,33 +86,6 @@ impl fmt::Display for VerdictText {
     }
 }
 
-impl Answer {
-    /// The status that is due for this answer.
-    fn status(&self) -> u8
-        ensures { result ≡ answer_status self.now }
-    {
-        match self {
-            Answer::Printed(_) => 0,
-            Answer::Judged(verdict) => verdict_status(verdict),
-            Answer::Refused(_) => 5,
-        }
-    }
-
-    /// The whole text that is due for this answer.
-    fn into_text(self, alloc: Global) -> Result<Bytes, AllocError>
-        ensures { IfOk result (λ text. text ≡ answer_text self) }
-    {
-        match self {
-            Answer::Printed(text) => Ok(text),
-            Answer::Judged(verdict) => {
-                let verdict = VerdictText(verdict);
-                Ok(text_from(format!(in alloc; "{verdict}\n")?))
-            }
-            Answer::Refused(refusal) => Ok(text_from(format!(in alloc; "refused {refusal}\n")?)),
-        }
-    }
-}
-
 impl Ending {
     /// The status that is due for this end.
     pub(crate) fn status(&self) -> u8
@@ -127,8 +95,9 @@ impl Ending {
             Ending::Usage => 1,
             Ending::ReadFault => 2,
             Ending::NoMemory => 4,
-            Ending::TooLarge => 5,
-            Ending::Answered(answer) => answer.status(),
+            Ending::Refused(_) => 5,
+            Ending::Printed(_) => 0,
+            Ending::Judged(verdict) => verdict_status(verdict),
         }
     }
 
@@ -141,8 +110,12 @@ impl Ending {
             Ending::Usage => Ok(text_from(format!(in alloc; "usage: helios COMMAND [WORDS]\n")?)),
             Ending::ReadFault => Ok(text_from(format!(in alloc; "fault read\n")?)),
             Ending::NoMemory => Ok(text_from(format!(in alloc; "fault memory\n")?)),
-            Ending::TooLarge => Ok(text_from(format!(in alloc; "refused too-large\n")?)),
-            Ending::Answered(answer) => answer.into_text(alloc),
+            Ending::Refused(refusal) => Ok(text_from(format!(in alloc; "refused {refusal}\n")?)),
+            Ending::Printed(text) => Ok(text),
+            Ending::Judged(verdict) => {
+                let verdict = VerdictText(verdict);
+                Ok(text_from(format!(in alloc; "{verdict}\n")?))
+            }
         }
     }
 }

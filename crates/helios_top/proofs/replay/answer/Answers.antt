@@ -2,5 +2,5 @@
 use Rattle.helios_top.proofs.Replayable.{schedule_is_replayable}
 use Rattle.helios_top.proofs.replay.answer.Goals as goal
 
-pub report-requires : goal.report-requires
-report-requires c = schedule_is_replayable c.args.text.now c.in-Ok.schedule c.in-Ok.ensures
+pub reported-requires : goal.reported-requires
+reported-requires c = schedule_is_replayable c.args.text.now c.in-Ok.schedule c.in-Ok.ensures

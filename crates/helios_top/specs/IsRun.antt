@@ -1,0 +1,53 @@
+-- What a run of the program does, from the outside before it to the outside after it: the page to read first.
+use Rattle.std.specs.Prelude.{◌≡◌, ◌≢◌, ℕ, ◌≤◌, ◌⊎◌, List, ◌++◌, Some, None, IfSome, codes}
+use Rattle.std.specs.Io.KnownBytes.{Appends}
+use Rattle.outside_io.specs.Causes.{Rose}
+use Rattle.helios_top.specs.declared.words.Command.{Command}
+use Rattle.helios_top.specs.declared.words.Command.TheVariants.{Check, Plan, Replay}
+use Rattle.helios_top.specs.declared.ending.Refusal.{Refusal}
+use Rattle.helios_top.specs.declared.ending.Ending.{Ending}
+use Rattle.helios_top.specs.declared.ending.Ending.TheVariants.{Usage, ReadFault, NoMemory, Refused}
+use Rattle.helios_top.specs.Ending.{Came, IsDone, line, refusal_text, text_of}
+use Rattle.helios_top.specs.Outside.{IsLater, Outside}
+use Rattle.helios_top.specs.Refusals.{refusal_of}
+use Rattle.helios_top.specs.Runs.Check.{CheckRun}
+use Rattle.helios_top.specs.Runs.Plan.{PlanRun}
+use Rattle.helios_top.specs.Runs.Replay.{ReplayRun}
+use Rattle.helios_top.specs.Words.{command_of}
+
+-- exactly this was written
+abbrev pub Writes : Outside → Outside → List ℕ → Type 0
+Writes before after text = Appends before.output.taken after.output.taken text
+
+pub record IsRun (words : List (List ℕ)) (before after : Outside) (status : ℕ) : Type 0 where
+  -- the true end; written was its text, or the line of status 4 where there was no memory for that, or, with status 3, a front of either
+  pub ending : Ending
+  pub came : Came before.output after.output ending status
+  pub later : IsLater before after
+  pub known : (status ≤ 5) ⊎ (status ≡ 9)
+  -- 0: the command's own answer
+  pub answered : status ≡ 0 → IsDone ending × Writes before after (text_of ending)
+  pub complete : IfSome before.input.left (λ bytes. (command : Command) → command_of words ≡ Some command → refusal_of command bytes ≡ None
+      → ¬ Rose before.input.faults after.input.faults → IsDone ending ⊎ (ending ≡ NoMemory))
+  -- 1: exactly where the words name no command
+  pub usage : status ≡ 1 → (command_of words ≡ None) × Writes before after (line (codes "usage: helios COMMAND [WORDS]"))
+  pub usage_only : command_of words ≡ None → ending ≡ Usage
+  -- 2: only where a read failed, and no failed read is passed over
+  pub read_fault : status ≡ 2 → Rose before.input.faults after.input.faults × Writes before after (line (codes "fault read"))
+  pub no_read_failed : ending ≢ ReadFault → after.input.faults ≡ before.input.faults
+  -- 3: only where a write failed, and no failed write is passed over
+  pub write_fault : status ≡ 3 → Rose before.output.faults after.output.faults
+  pub no_write_failed : status ≢ 3 → after.output.faults ≡ before.output.faults
+  -- 4: where there was no memory, for the end or for its line
+  pub no_memory : status ≡ 4 → Writes before after (line (codes "fault memory"))
+  -- 5: exactly by the first rule that the input breaks
+  pub refused : status ≡ 5 → (command : Command) × (refusal : Refusal) × (command_of words ≡ Some command)
+      × IfSome before.input.left (λ bytes. refusal_of command bytes ≡ Some refusal) × Writes before after (line (codes "refused " ++ refusal_text refusal))
+  pub refused_only : IfSome before.input.left (λ bytes. (command : Command) → command_of words ≡ Some command → (refusal : Refusal)
+      → refusal_of command bytes ≡ Some refusal → (ending ≡ Refused refusal) ⊎ (ending ≡ ReadFault) ⊎ (ending ≡ NoMemory))
+  -- 9: the answer is no
+  pub denied : status ≡ 9 → (command_of words ≡ Some Check) × Writes before after (text_of ending)
+  -- each command
+  pub replay : command_of words ≡ Some Replay → ReplayRun before after ending
+  pub check : command_of words ≡ Some Check → CheckRun before after ending
+  pub plan : command_of words ≡ Some Plan → PlanRun before after ending
