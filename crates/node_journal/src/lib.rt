@@ -16,6 +16,3 @@ pub use fault::JournalFault;
 pub use framed::Framed;
 pub use journal::Journal;
 pub use reading::{Found, Reading};
-
-#[cfg(test)]
-mod tests;

@@ -9,6 +9,8 @@ mod file_system;
 #[cfg(test)]
 mod files;
 #[cfg(test)]
+mod journals;
+#[cfg(test)]
 mod process;
 #[cfg(test)]
 mod streams;

@@ -5,9 +5,10 @@ ghost use Rattle.disk_store.specs.Outlook.{never};
 ghost use Rattle.node_journal.specs.Frames.{IsReadTo, StandsFor};
 ghost use Rattle.node_journal.specs.Appending.{IsReady, end_of, is_kept};
 
-use super::*;
 use disk_store::{Disk, FileDisk, Keep, MemDisk, RecordDisk, Stop};
 use helios_model::Bytes;
+use node_journal::laws::stopped_disk;
+use node_journal::{Found, Framed, Journal, JournalFault, Reading};
 use outside_io::Failed;
 use std::alloc::{AllocError, Global};
 use std::test::Fail;
@@ -183,6 +184,7 @@ fn add_and_crash(
     ensures stands { (payloads : List (List ℕ)) → IsReadTo disk.old.disk.bytes journal.gate payloads →
         StandsFor disk.new.disk.bytes (if is_kept stop.call stop.keep then payloads ++ frame.now ∷ [] else payloads) }
 {
+    stopped_disk();
     disk.script(stop);
     let answer = journal.append(disk, frame);
     disk.crash();
