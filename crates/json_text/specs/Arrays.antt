@@ -2,7 +2,7 @@
 use Rattle.std.specs.Prelude.{ℕ, ℤ, ◌==◌, List, length, Option, Some, None, option_map, option_and_then, if◌then◌else◌}
 use Rattle.std.specs.List.{flat_map}
 use Rattle.serde_json.specs.Data.{Data}
-pub use Rattle.json_text.specs.Lists.{each_of}
+use Rattle.json_text.specs.Lists.{each_of}
 use Rattle.serde_json.specs.Find.{as_array, as_number, as_u64, as_i64}
 
 -- a number that is whole, at least 0 and below 2 ^ 64, and written without a point or an exponent

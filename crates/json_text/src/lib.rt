@@ -4,10 +4,8 @@
 //! memory runs out.
 #![tactic(auto)]
 
-mod arrays;
 mod lists;
 mod members;
-mod names;
 mod names_read;
 mod refusals;
 mod rows;
@@ -15,10 +13,8 @@ mod spelled;
 mod text;
 mod transactions;
 
-pub use arrays::{numbers, row, square, texts};
 pub use lists::{ItemReader, PartReader, read_list, read_parts};
 pub use members::{array_member, has_member, is_text, number_member, only, pair, text_member};
-pub use names::is_name;
 pub use names_read::read_names;
 pub use refusals::{Refusal, Unread};
 pub use rows::{JsonNumber, read_row, read_square};
@@ -27,6 +23,3 @@ pub use spelled::{
 };
 pub use text::{a_line_feed_says_nothing, line_of, value_of};
 pub use transactions::{PutReader, ReadReader, read_keyed};
-
-#[cfg(test)]
-mod tests;
