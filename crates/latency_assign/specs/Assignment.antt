@@ -24,13 +24,21 @@ potential potentials i = slice_index_or potentials i (pos 0)
 abbrev pub IsInRange : ℤ → Type 0
 IsInRange p = (pos 0 ≤ℤ p) × (p ≤ℤ pos longest_trip)
 
+-- feasible: the potentials of any two sites together reach their round trip
+abbrev pub IsReaching : MatrixData → List ℤ → List ℤ → Type 0
+IsReaching m u v = (i j : ℕ) → i < count_of m → j < count_of m → pos (distance m i j) ≤ℤ (potential u i +ℤ potential v j)
+
+-- tight: the potentials of a site and of its partner are their round trip
+abbrev pub IsTightPairing : MatrixData → List ℤ → List ℤ → List ℕ → Type 0
+IsTightPairing m u v pair = (i : ℕ) → i < count_of m → (potential u i +ℤ potential v (slice_index pair i)) ≡ pos (distance m i (slice_index pair i))
+
 -- Each site has a partner of its own. The potentials of any two sites together reach their round trip, and those of a
 -- site and its partner are their round trip.
 pub record IsAssignment (m : MatrixData) (p : Potentials) : Type 0 where
   pub rows : length p.u ≡ count_of m
   pub columns : length p.v ≡ count_of m
   pub permutation : IsPermutation (sites_of m) p.s
-  pub reached : (i j : ℕ) → i < count_of m → j < count_of m → pos (distance m i j) ≤ℤ (potential p.u i +ℤ potential p.v j)
-  pub tight : (i : ℕ) → i < count_of m → (potential p.u i +ℤ potential p.v (slice_index p.s i)) ≡ pos (distance m i (slice_index p.s i))
+  pub reached : IsReaching m p.u p.v
+  pub tight : IsTightPairing m p.u p.v p.s
   pub rows_in_range : All IsInRange p.u
   pub columns_in_range : All IsInRange p.v

@@ -1,0 +1,9 @@
+//! Tests of the crates that read, plan, judge and print, by their public calls alone.
+#![tactic(auto)]
+
+#[cfg(test)]
+mod matrix_texts;
+#[cfg(test)]
+mod plan_texts;
+#[cfg(test)]
+mod planning;
