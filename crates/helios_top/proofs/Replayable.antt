@@ -1,8 +1,8 @@
 -- What a text says as a schedule can be replayed.
-use Rattle.std.proofs.Common.{◌≡◌, ℕ, suc, ◌∙◌, ◌≤◌, ◌&&◌, Bool, true, false, List, [], ◌∷◌, ◌==◌, length, nat_lt, nat_le, Option, Some, None, option_map, option_and_then, All, IsTrue, if◌then◌else◌, refl, ap, subst, arith, codes}
-use Rattle.std.proofs.lemmas.Bool.{and_parts, leb-true}
-use Rattle.std.proofs.lemmas.List.Elements.{All-cons, All-nil}
-use Rattle.std.specs.List.{before_first, after_first}
+use Rattle.std.proofs.Common.{◌≡◌, ℕ, suc, ◌∙◌, ◌≤◌, ◌&&◌, Bool, true, false, not, List, [], ◌∷◌, ◌==◌, length, nat_lt, nat_le, Option, Some, None, option_map, option_and_then, All, IsTrue, if◌then◌else◌, refl, ap, subst, arith, codes}
+use Rattle.std.proofs.lemmas.Bool.{and_parts, eqb-false, leb-true, ltb-true, not-true}
+use Rattle.std.proofs.lemmas.List.Elements.{All-cons, All-nil, All-weaker}
+use Rattle.std.specs.List.{before_first, after_first, list_all}
 use Rattle.std.specs.Str.{bytes_eq}
 use Rattle.serde_json.specs.Data.{Data, Items, item, no_items}
 use Rattle.serde_json.specs.Find.{as_array, as_str, get}
@@ -10,8 +10,8 @@ use Rattle.helios_model.specs.declared.ids.TxnId.{TxnId}
 use Rattle.helios_model.specs.declared.ids.Version.{Version}
 use Rattle.helios_model.specs.declared.ids.Version.TheVariants.{Initial, Of}
 use Rattle.helios_model.specs.declared.transactions.PutItem.{PutItem}
-use Rattle.helios_model.specs.Texts.{all_differ}
-use Rattle.helios_model.specs.Limits.{last_time, most_items, most_sites}
+use Rattle.helios_model.specs.Texts.{IsKey, IsKeyByte, IsValue, all_differ}
+use Rattle.helios_model.specs.Limits.{last_time, most_items, most_key_bytes, most_sites, most_value_bytes}
 use Rattle.helios_model.specs.Plans.{PlanData}
 use Rattle.schedule_replay.specs.declared.inputs.Planned.{Planned}
 use Rattle.schedule_replay.specs.declared.inputs.Planned.TheVariants.{Request}
@@ -20,11 +20,12 @@ use Rattle.schedule_replay.specs.declared.reads.PlannedVersion.TheVariants.{At}
 use Rattle.schedule_replay.specs.declared.schedule.Schedule.{Schedule}
 use Rattle.schedule_replay.specs.declared.steps.Step.{Step}
 use Rattle.schedule_replay.specs.declared.steps.Step.TheVariants.{Batch}
-use Rattle.schedule_replay.specs.Replayable.{IsGiven, IsPlannedInput, IsPlannedStep, IsReplayable, IsVersionText, most_steps}
+use Rattle.schedule_replay.specs.Replayable.{IsGiven, IsPlannedInput, IsPlannedStep, IsReplayable, most_steps}
 use Rattle.json_text.specs.Members.{array_member, number_member, only_at, pair_at}
 use Rattle.helios_top.specs.Reading.{is_one_site_plan, one_site, plan_at, schedule_at, schedule_of}
-use Rattle.helios_model.specs.Spellings.{IsIdText, id_from, id_of, is_at, number_of, version_of}
-use Rattle.json_text.specs.Spelled.{key_at, version_at}
+use Rattle.helios_model.specs.Spellings.{id_from, id_of, is_at, is_key, is_key_byte, key_of, number_of, value_of, version_of}
+use Rattle.helios_model.specs.Spellable.{IsSpellableId, IsSpellableVersion}
+use Rattle.json_text.specs.Spelled.{key_at, value_at, version_at}
 use Rattle.json_text.specs.Lists.{each_of, parts_of}
 use Rattle.json_text.specs.Transactions.{differing, keyed_of, put_at}
 use Rattle.serde_json.specs.Events.{items_len}
@@ -68,41 +69,97 @@ each_of_all said P each (item d ds) xs e =
 
 -- ---- versions
 
-id_from_limits : (site time : ℕ) (id : TxnId) → id_from site time ≡ Some id → (1 ≤ id.time) × (id.time ≤ last_time)
+id_from_limits : (site time : ℕ) (id : TxnId) → id_from site time ≡ Some id → IsSpellableId most_sites id
 unfolding id_from
 id_from_limits site time id e =
     let g = guard_some (nat_lt site most_sites && nat_le 1 time && nat_le time last_time) (record { site = site; time = time }) id e in
     let outer = and_parts (nat_lt site most_sites && nat_le 1 time) (nat_le time last_time) g.0 in
     let inner = and_parts (nat_lt site most_sites) (nat_le 1 time) outer.0 in
-    let is : time ≡ id.time = ap (λ (i : TxnId). i.time) g.1 in
-    (subst (λ (t : ℕ). 1 ≤ t) is (leb-true 1 time inner.1), subst (λ (t : ℕ). t ≤ last_time) is (leb-true time last_time outer.1))
+    subst (IsSpellableId most_sites) g.1 (record { here = ltb-true site most_sites inner.0; some = leb-true 1 time inner.1; last = leb-true time last_time outer.1 })
 
-id_of_limits : (text : List ℕ) (id : TxnId) → id_of text ≡ Some id → (1 ≤ id.time) × (id.time ≤ last_time)
+id_of_limits : (text : List ℕ) (id : TxnId) → id_of text ≡ Some id → IsSpellableId most_sites id
 unfolding id_of
 id_of_limits text id e =
     let site = bind_some (number_of (before_first is_at text)) (λ (s : ℕ). option_and_then (λ (t : ℕ). id_from s t) (number_of (after_first is_at text))) id e in
     let time = bind_some (number_of (after_first is_at text)) (λ (t : ℕ). id_from site.0 t) id site.1.1 in
     id_from_limits site.0 time.0 id time.1.1
 
-initial_or_id : (b : Bool) (found : Option TxnId) (v : Version) → ((id : TxnId) → found ≡ Some id → (1 ≤ id.time) × (id.time ≤ last_time))
-    → (if b then Some Initial else option_map Of found) ≡ Some v → IsVersionText v
-initial_or_id true found v limits e = let same : Initial ≡ v = cc in subst IsVersionText same tt
-initial_or_id false found v limits e = let m = map_some found Of v e in subst IsVersionText m.1.1 (limits m.0 m.1.0)
+initial_or_id : (b : Bool) (found : Option TxnId) (v : Version) → ((id : TxnId) → found ≡ Some id → IsSpellableId most_sites id)
+    → (if b then Some Initial else option_map Of found) ≡ Some v → IsSpellableVersion v
+initial_or_id true found v limits e = let same : Initial ≡ v = cc in subst IsSpellableVersion same tt
+initial_or_id false found v limits e = let m = map_some found Of v e in subst IsSpellableVersion m.1.1 (limits m.0 m.1.0)
 
-version_limits : (d : Data) (v : Version) → version_at d ≡ Some v → IsVersionText v
+version_limits : (d : Data) (v : Version) → version_at d ≡ Some v → IsSpellableVersion v
 unfolding version_at version_of
 version_limits d v e = let text = bind_some (as_str d) version_of v e in initial_or_id (bytes_eq text.0 (codes "initial")) (id_of text.0) v (λ id. id_of_limits text.0 id) text.1.1
 
+-- ---- keys and values
+
+key_byte_is : (b : ℕ) → is_key_byte b ≡ true → IsKeyByte b
+key_byte_is b h =
+    let outer = and_parts (nat_le 33 b && nat_le b 126) (not (b == 61)) h in
+    let inner = and_parts (nat_le 33 b) (nat_le b 126) outer.0 in
+    (leb-true 33 b inner.0, leb-true b 126 inner.1, eqb-false b 61 (not-true (b == 61) outer.1))
+
+key_bytes_are : (bytes : List ℕ) → list_all is_key_byte bytes ≡ true → All IsKeyByte bytes
+key_bytes_are [] h = All-nil IsKeyByte
+key_bytes_are (b ∷ bytes) h =
+    let parts = and_parts (is_key_byte b) (list_all is_key_byte bytes) h in
+    All-cons IsKeyByte b bytes (key_byte_is b parts.0) (key_bytes_are bytes parts.1)
+
+key_of_limits : (bytes key : List ℕ) → key_of bytes ≡ Some key → IsKey key
+unfolding key_of
+key_of_limits bytes key e =
+    let g = guard_some (is_key bytes) bytes key e in
+    let outer = and_parts (nat_le 1 (length bytes) && nat_le (length bytes) most_key_bytes) (list_all is_key_byte bytes) g.0 in
+    let inner = and_parts (nat_le 1 (length bytes)) (nat_le (length bytes) most_key_bytes) outer.0 in
+    subst IsKey g.1 (record { some = leb-true 1 (length bytes) inner.0; most = leb-true (length bytes) most_key_bytes inner.1; printable = key_bytes_are bytes outer.1 })
+
+key_limits : (d : Data) (key : List ℕ) → key_at d ≡ Some key → IsKey key
+unfolding key_at
+key_limits d key e = let text = bind_some (as_str d) key_of key e in key_of_limits text.0 key text.1.1
+
+value_of_limits : (bytes value : List ℕ) → value_of bytes ≡ Some value → IsValue value
+unfolding value_of
+value_of_limits bytes value e =
+    let g = guard_some (nat_le (length bytes) most_value_bytes) bytes value e in
+    subst IsValue g.1 (leb-true (length bytes) most_value_bytes g.0)
+
+value_limits : (d : Data) (value : List ℕ) → value_at d ≡ Some value → IsValue value
+unfolding value_at
+value_limits d value e = let text = bind_some (as_str d) value_of value e in value_of_limits text.0 value text.1.1
+
 -- ---- requests
 
-read_given : (d : Data) (r : PlannedRead) → read_at d ≡ Some r → IsGiven r.version
+-- a read of a key, at a given version
+pub record IsGivenRead (r : PlannedRead) : Type 0 where
+  pub key : IsKey r.key
+  pub given : IsGiven r.version
+
+read_given : (d : Data) (r : PlannedRead) → read_at d ≡ Some r → IsGivenRead r
 unfolding read_at
 read_given d r e =
     let pair = bind_some (pair_at d) (λ (p : Data × Data). option_and_then (λ (k : List ℕ). option_and_then (λ (v : Version). Some (record { key = k; version = At v })) (version_at p.1)) (key_at p.0)) r e in
     let key = bind_some (key_at pair.0.0) (λ (k : List ℕ). option_and_then (λ (v : Version). Some (record { key = k; version = At v })) (version_at pair.0.1)) r pair.1.1 in
     let version = bind_some (version_at pair.0.1) (λ (v : Version). Some (record { key = key.0; version = At v })) r key.1.1 in
     let made : PlannedRead = record { key = key.0; version = At version.0 } in
-    subst (λ (read : PlannedRead). IsGiven read.version) (some_injective made r version.1.1) (version_limits pair.0.1 version.0 version.1.0)
+    subst IsGivenRead (some_injective made r version.1.1)
+    (record { key = key_limits pair.0.0 key.0 key.1.0; given = version_limits pair.0.1 version.0 version.1.0 })
+
+-- a value for a key
+pub record IsGivenPut (p : PutItem) : Type 0 where
+  pub key : IsKey p.key
+  pub value : IsValue p.value
+
+put_given : (d : Data) (p : PutItem) → put_at d ≡ Some p → IsGivenPut p
+unfolding put_at
+put_given d p e =
+    let pair = bind_some (pair_at d) (λ (x : Data × Data). option_and_then (λ (k : List ℕ). option_and_then (λ (v : List ℕ). Some (record { key = k; value = v })) (value_at x.1)) (key_at x.0)) p e in
+    let key = bind_some (key_at pair.0.0) (λ (k : List ℕ). option_and_then (λ (v : List ℕ). Some (record { key = k; value = v })) (value_at pair.0.1)) p pair.1.1 in
+    let value = bind_some (value_at pair.0.1) (λ (v : List ℕ). Some (record { key = key.0; value = v })) p key.1.1 in
+    let made : PutItem = record { key = key.0; value = value.0 } in
+    subst IsGivenPut (some_injective made p value.1.1)
+    (record { key = key_limits pair.0.0 key.0 key.1.0; value = value_limits pair.0.1 value.0 value.1.0 })
 
 -- the items of a list of distinct keys, each as it is said
 pub record AreKeyed {T : Type 0} (key : T → List ℕ) (P : T → Type 0) (items : List T) : Type 0 where
@@ -139,13 +196,13 @@ keyed_limits key said P holds items xs e =
     let parts = parts_limits most_items said P holds items found.0 found.1.0 in
     subst (AreKeyed key P) differ.1 (record { few = parts.few; differ = differ.0; each = parts.each })
 
-reads_limits : (items : Items) (reads : List PlannedRead) → reads_of items ≡ Some reads → AreKeyed (λ r. r.key) (λ r. IsGiven r.version) reads
+reads_limits : (items : Items) (reads : List PlannedRead) → reads_of items ≡ Some reads → AreKeyed (λ r. r.key) IsGivenRead reads
 unfolding reads_of
-reads_limits items reads e = keyed_limits (λ r. r.key) read_at (λ r. IsGiven r.version) read_given items reads e
+reads_limits items reads e = keyed_limits (λ r. r.key) read_at IsGivenRead read_given items reads e
 
-puts_limits : (items : Items) (puts : List PutItem) → puts_of items ≡ Some puts → AreKeyed (λ p. p.key) (λ p. Unit {0}) puts
+puts_limits : (items : Items) (puts : List PutItem) → puts_of items ≡ Some puts → AreKeyed (λ p. p.key) IsGivenPut puts
 unfolding puts_of
-puts_limits items puts e = keyed_limits (λ p. p.key) put_at (λ p. Unit {0}) (λ d p said. tt) items puts e
+puts_limits items puts e = keyed_limits (λ p. p.key) put_at IsGivenPut put_given items puts e
 
 asked_limits : (d : Data) (p : Planned) → asked_at d ≡ Some p → IsPlannedInput p
 unfolding asked_at
@@ -163,10 +220,15 @@ asked_limits d p e =
     let same : Request time.0 reads.0 puts.0 ≡ p = some_injective (Request time.0 reads.0 puts.0) p puts.1.1 in
     subst IsPlannedInput same (record {
       few_reads = of_reads.few;
-      few_puts = of_puts.few;
       reads_differ = of_reads.differ;
-      puts_differ = of_puts.differ;
-      given = of_reads.each;
+      read_keys = All-weaker IsGivenRead (λ r. IsKey r.key) (λ r given. given.key) reads.0 of_reads.each;
+      given = All-weaker IsGivenRead (λ r. IsGiven r.version) (λ r given. given.given) reads.0 of_reads.each;
+      within = record {
+        few = of_puts.few;
+        differ = of_puts.differ;
+        keys = All-weaker IsGivenPut (λ p. IsKey p.key) (λ p given. given.key) puts.0 of_puts.each;
+        values = All-weaker IsGivenPut (λ p. IsValue p.value) (λ p given. given.value) puts.0 of_puts.each;
+      };
     })
 
 request_limits : (d : Data) (p : Planned) → request_at d ≡ Some p → IsPlannedInput p
