@@ -4,12 +4,12 @@
 
 ghost use Rattle.std.specs.Prelude.{◌≡◌, IfErr, IfOk, IsErrAnd, MatchResult, drop};
 ghost use Rattle.std.specs.Vec.Iter.{into_iter_items};
-ghost use Rattle.helios_top.specs.Run.{IsStatus};
-ghost use Rattle.helios.specs.Words.{EndsByUsage, IsReason, IsWordless};
+ghost use Rattle.helios_top.specs.Outside.{Outside};
+ghost use Rattle.helios.specs.Words.{IsReason, IsWordless, RunsWords};
 ghost use Rattle.helios.specs.declared.NoWords.TheVariants.{NotText, NoMemory};
 
 use helios_top::run;
-use outside_io::{StdSink, StdSource};
+use outside_io::{Sink, Source, StdSink, StdSource};
 use std::alloc::{AllocError, Global};
 use std::process::ExitCode;
 use std::{env, io};
@@ -73,28 +73,31 @@ fn behind_first(alloc: Global, all: env::Args) -> Result<Vec<String>, AllocError
     all.skip(1).collect(alloc)
 }
 
-/// Runs these words over the standard streams, and gives the exit status.
-fn run_words(rt: &(impl Input + Print + AllocGlobal), words: &Vec<String>) -> u8
-    ensures status { IsStatus result }
-    ensures usage { EndsByUsage words.now.items result }
+/// Runs a command line over an input and an output, and gives the exit status.
+fn run_command_line<S: Source, K: Sink>(
+    alloc: Global,
+    all: io::Result<env::Args>,
+    input: &mut S,
+    output: &mut K,
+) -> u8
+    ensures run { IfOk all (λ args.
+        let before : Outside = record { input = S.seen input.old; output = K.seen output.old } in
+        let after : Outside = record { input = S.seen input.new; output = K.seen output.new } in
+        RunsWords (drop 1 (into_iter_items args)) before after result) }
+    ensures wordless { IfErr all (λ error.
+        let before : Outside = record { input = S.seen input.old; output = K.seen output.old } in
+        let after : Outside = record { input = S.seen input.new; output = K.seen output.new } in
+        IsWordless error before after result) }
 {
-    let mut input = StdSource::over(rt);
-    let mut output = StdSink::over(rt);
-    run(rt.alloc(), words, &mut input, &mut output).0
-}
-
-/// Runs a command line over the standard streams, and gives the exit status.
-fn run_command_line(rt: &(impl Input + Print + AllocGlobal), all: io::Result<env::Args>) -> u8
-    ensures status { IsStatus result }
-    ensures usage { IfOk all (λ args. EndsByUsage (drop 1 (into_iter_items args)) result) }
-    ensures wordless { IfErr all (λ error. IsWordless error result) }
-{
-    match words_of(rt.alloc(), all) {
-        Ok(words) => run_words(rt, &words),
+    match words_of(alloc, all) {
+        Ok(words) => run(alloc, &words, input, output).0,
         Err(none) => none.status(),
     }
 }
 
 fn main(rt: HostRuntime) -> ExitCode {
-    ExitCode::from(run_command_line(&rt, env::args(&rt)))
+    let mut input = StdSource::over(&rt);
+    let mut output = StdSink::over(&rt);
+    let status = run_command_line(rt.alloc(), env::args(&rt), &mut input, &mut output);
+    ExitCode::from(status)
 }

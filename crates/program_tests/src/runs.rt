@@ -1,0 +1,91 @@
+ghost use Rattle.std.specs.Prelude.{◌<◌};
+
+use helios_top::run;
+use outside_io::{MemSink, MemSource};
+use std::alloc::{AllocError, Global};
+use std::test::Fail;
+
+/// The schedule without steps.
+pub(crate) const EMPTY: &str =
+    r#"{"plan":{"latency":[0],"names":["A"],"offset":[[0]],"pair":[0],"rtt":[[0]],"total":0,"version":1},"steps":[]}"#;
+
+pub(crate) const REPORT: &str = "site 0 time 0 log 0 pending 0\n";
+
+const USAGE: &str = "usage: helios COMMAND [WORDS]\n";
+
+/// What a run over memory came to: the status, what was written, and how many bytes were not read.
+#[derive(Drop)]
+pub(crate) struct Outcome {
+    pub(crate) status: u8,
+    pub(crate) written: Vec<u8>,
+    pub(crate) left: usize,
+}
+
+/// Runs the words over the input, both ends in pieces of so many bytes. The reads and the writes
+/// with these numbers fail.
+pub(crate) fn run_over(
+    alloc: Global,
+    words: &[&str],
+    input: Vec<u8>,
+    piece: usize,
+    reads: &[u64],
+    writes: &[u64],
+) -> Result<Outcome, AllocError>
+    requires { 0 < piece }
+{
+    let mut texts = Vec::new(alloc);
+    for word in words {
+        texts.push(String::from_str(alloc, word)?)?;
+    }
+    let mut source = MemSource::new(input, piece, reads.to_vec(alloc)?);
+    let mut sink = MemSink::new(alloc, 1000, piece, writes.to_vec(alloc)?)?;
+    let status = run(alloc, &texts, &mut source, &mut sink);
+    Ok(Outcome {
+        status: status.0,
+        written: sink.taken().to_vec(alloc)?,
+        left: source.left().len(),
+    })
+}
+
+#[test]
+fn takes_its_words_and_no_others(rt: HostRuntime) -> Result<(), Fail> {
+    let cases: [(&[&str], u8, &str); 5] = [
+        (&["replay"], 0, REPORT),
+        (&[], 1, USAGE),
+        (&["replay", "x"], 1, USAGE),
+        (&["Replay"], 1, USAGE),
+        (&["--help"], 1, USAGE),
+    ];
+    for (words, status, text) in cases {
+        let input = EMPTY.as_bytes().to_vec(rt.alloc())?;
+        let got = run_over(rt.alloc(), words, input, 1, &[], &[])?;
+        assert_eq!(rt; got.status, status);
+        assert_eq!(rt; got.written.as_slice(), text.as_bytes());
+        let unread = if status == 1 { EMPTY.len() } else { 0 };
+        assert_eq!(rt; got.left, unread);
+    }
+    Ok(())
+}
+
+#[test]
+fn ends_by_each_fault(rt: HostRuntime) -> Result<(), Fail> {
+    let cases: [(&[&str], usize, &[u64], &[u64], u8, &str); 9] = [
+        (&["replay"], 5, &[0], &[], 2, "fault read\n"),
+        (&["replay"], 5, &[1], &[], 2, "fault read\n"),
+        (&["replay"], 5, &[], &[0], 3, ""),
+        (&["replay"], 5, &[], &[2], 3, "site 0 tim"),
+        (&["replay"], 5, &[0], &[1], 3, "fault"),
+        (&["check"], 5, &[], &[0], 3, ""),
+        (&[], 5, &[], &[0], 3, ""),
+        (&[], 5, &[0], &[], 1, USAGE),
+        // The first read gives all, the second is the end: a third would fail.
+        (&["replay"], 1000, &[2], &[], 0, REPORT),
+    ];
+    for (words, piece, reads, writes, status, text) in cases {
+        let input = EMPTY.as_bytes().to_vec(rt.alloc())?;
+        let got = run_over(rt.alloc(), words, input, piece, reads, writes)?;
+        assert_eq!(rt; got.status, status);
+        assert_eq!(rt; got.written.as_slice(), text.as_bytes());
+    }
+    Ok(())
+}
