@@ -4,7 +4,7 @@ use Rattle.std.specs.Option.{ForSome}
 use Rattle.disk_store.specs.Disk.{DiskState, IsImage, EachImage, at_rest, over, after_write, after_sync}
 use Rattle.disk_store.specs.Moments.{AtEachMoment}
 use Rattle.disk_store.specs.Laws.Moments.{Past, moments_start, moments_join, moments_weaker}
-use Rattle.disk_store.specs.Laws.Writes.{torn_images, rest_images, rest_image}
+use Rattle.disk_store.specs.Laws.Writes.{torn_images, rest_images}
 use Rattle.node_journal.specs.Frames.{IsSmall, frame_of, IsReadTo, EndsAt}
 use Rattle.node_journal.specs.Appending.{IsReady, IsBeforeOrAfter, WhileWriting, sealed}
 use Rattle.node_journal.proofs.Images.{staged, staged_before, staged_within, staged_gate, gate_over, sealed_ends, gate_images, frame_images, ends_kept, sealed_within, sealed_closed}
@@ -116,8 +116,3 @@ both_sealed None mid new gate payload ready one two = two ∙ ap (option_map (λ
 both_sealed (Some old) mid new gate payload ready one two =
     two ∙ ap (option_map (λ disk. after_sync (after_write gate (1 ∷ []) disk))) one
     ∙ ap (λ (bytes : List ℕ). Some (at_rest bytes)) (gate_over gate payload old.bytes (ready old refl).within)
-
--- a disk that is ready reads as its image
-pub ready_image : (state : Option DiskState) (gate : ℕ) → ForSome state (λ disk. IsReady disk gate) → IfSome state (λ disk. IsImage disk disk.bytes)
-ready_image None gate ready = tt
-ready_image (Some disk) gate ready = subst (λ (d : DiskState). IsImage d disk.bytes) (sym (ready disk refl).at_rest) (rest_image disk.bytes)
