@@ -69,21 +69,22 @@ fn takes_its_words_and_no_others(rt: HostRuntime) -> Result<(), Fail> {
 
 #[test]
 fn ends_by_each_fault(rt: HostRuntime) -> Result<(), Fail> {
-    let cases: [(&[&str], usize, &[u64], &[u64], u8, &str); 9] = [
-        (&["replay"], 5, &[0], &[], 2, "fault read\n"),
-        (&["replay"], 5, &[1], &[], 2, "fault read\n"),
-        (&["replay"], 5, &[], &[0], 3, ""),
-        (&["replay"], 5, &[], &[2], 3, "site 0 tim"),
-        (&["replay"], 5, &[0], &[1], 3, "fault"),
-        (&["check"], 5, &[], &[0], 3, ""),
-        (&[], 5, &[], &[0], 3, ""),
-        (&[], 5, &[0], &[], 1, USAGE),
-        // The first read gives all, the second is the end: a third would fail.
-        (&["replay"], 1000, &[2], &[], 0, REPORT),
+    // The number of the read and of the write that fail; none has the number 99.
+    let cases = [
+        ("replay", 0, 99, 2, "fault read\n"),
+        ("replay", 1, 99, 2, "fault read\n"),
+        ("replay", 99, 0, 3, ""),
+        ("replay", 99, 2, 3, "site 0 tim"),
+        ("replay", 0, 1, 3, "fault"),
+        ("check", 99, 0, 3, ""),
+        ("x", 99, 0, 3, ""),
+        ("x", 0, 99, 1, USAGE),
+        // So many reads give the input and its end: one more would fail.
+        ("replay", 23, 99, 0, REPORT),
     ];
-    for (words, piece, reads, writes, status, text) in cases {
+    for (word, read, write, status, text) in cases {
         let input = EMPTY.as_bytes().to_vec(rt.alloc())?;
-        let got = run_over(rt.alloc(), words, input, piece, reads, writes)?;
+        let got = run_over(rt.alloc(), &[word], input, 5, &[read], &[write])?;
         assert_eq!(rt; got.status, status);
         assert_eq!(rt; got.written.as_slice(), text.as_bytes());
     }
