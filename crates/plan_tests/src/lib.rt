@@ -1,6 +1,8 @@
-//! Tests of the crates that read, plan, judge and print, by their public calls alone.
+//! Tests of the data of the protocol and of the crates that read, plan, judge and print, by their public calls alone.
 #![tactic(auto)]
 
+#[cfg(test)]
+mod copies;
 #[cfg(test)]
 mod matrix_texts;
 #[cfg(test)]
