@@ -29,23 +29,23 @@ pub record IsRun (words : List (List ℕ)) (before after : Outside) (status : �
   pub answered : status ≡ 0 → IsDone ending × Writes before after (text_of ending)
   pub complete : IfSome before.input.left (λ bytes. (command : Command) → command_of words ≡ Some command → refusal_of command bytes ≡ None
       → ¬ Rose before.input.faults after.input.faults → IsDone ending ⊎ (ending ≡ NoMemory))
-  -- 1: exactly where the words name no command
+  -- 1: only where the words name no command, and for such words that is the end
   pub usage : status ≡ 1 → (command_of words ≡ None) × Writes before after (line (codes "usage: helios COMMAND [WORDS]"))
   pub usage_only : command_of words ≡ None → ending ≡ Usage
-  -- 2: only where a read failed, and no failed read is passed over
+  -- 2: only where a read failed; where the end is another, none failed
   pub read_fault : status ≡ 2 → Rose before.input.faults after.input.faults × Writes before after (line (codes "fault read"))
   pub no_read_failed : ending ≢ ReadFault → after.input.faults ≡ before.input.faults
-  -- 3: only where a write failed, and no failed write is passed over
+  -- 3: only where a write failed; at every other status none failed
   pub write_fault : status ≡ 3 → Rose before.output.faults after.output.faults
   pub no_write_failed : status ≢ 3 → after.output.faults ≡ before.output.faults
-  -- 4: where there was no memory, for the end or for its line
+  -- 4: for want of memory, for the end or for its line; it may come anywhere
   pub no_memory : status ≡ 4 → Writes before after (line (codes "fault memory"))
-  -- 5: exactly by the first rule that the input breaks
+  -- 5: by the first rule that the input breaks, and for such an input that is the end, but for a read fault and want of memory
   pub refused : status ≡ 5 → (command : Command) × (refusal : Refusal) × (command_of words ≡ Some command)
       × IfSome before.input.left (λ bytes. refusal_of command bytes ≡ Some refusal) × Writes before after (line (codes "refused " ++ refusal_text refusal))
   pub refused_only : IfSome before.input.left (λ bytes. (command : Command) → command_of words ≡ Some command → (refusal : Refusal)
       → refusal_of command bytes ≡ Some refusal → (ending ≡ Refused refusal) ⊎ (ending ≡ ReadFault) ⊎ (ending ≡ NoMemory))
-  -- 9: the answer is no
+  -- 9: the plan is not shown to be optimal
   pub denied : status ≡ 9 → (command_of words ≡ Some Check) × Writes before after (text_of ending)
   -- each command
   pub replay : command_of words ≡ Some Replay → ReplayRun before after ending

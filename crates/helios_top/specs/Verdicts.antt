@@ -3,7 +3,7 @@ use Rattle.std.specs.Prelude.{ℕ, List, ◌++◌, codes, decimal}
 use Rattle.plan_certificate.specs.declared.verdict.Verdict.{Verdict}
 use Rattle.plan_certificate.specs.declared.verdict.Verdict.TheVariants.{Optimal, Short, NoPairing, ValueDiffers}
 
--- 0 for a plan that is optimal, 9 for any other
+-- 0 for a plan that its pairing shows to be optimal, 9 for any other
 abbrev pub verdict_status : Verdict → ℕ
 verdict_status (Optimal total) = 0
 verdict_status (Short i j) = 9

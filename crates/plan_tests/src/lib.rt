@@ -4,6 +4,8 @@
 #[cfg(test)]
 mod copies;
 #[cfg(test)]
+mod json_texts;
+#[cfg(test)]
 mod matrix_texts;
 #[cfg(test)]
 mod plan_texts;

@@ -84,7 +84,7 @@ fn reads_up_to_the_limit(rt: HostRuntime) -> Result<(), Fail> {
     longer.push(b' ')?;
     longer.push(b' ')?;
     // All reads but the last give 8,192 bytes; the one behind the last would fail.
-    let most = run_over(rt.alloc(), &["replay"], input, 65536, &[2050], &[])?;
+    let most = run_over(rt.alloc(), &["replay"], input, 65536, &[2049], &[])?;
     assert_eq!(rt; (most.status, most.left), (0, 0));
     assert_eq!(rt; most.written.as_slice(), REPORT.as_bytes());
     let over = run_over(rt.alloc(), &["replay"], longer, 65536, &[2049], &[])?;
