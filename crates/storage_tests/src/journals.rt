@@ -11,6 +11,7 @@ use node_journal::laws::stopped_disk;
 use node_journal::{Found, Framed, Journal, JournalFault, Reading};
 use outside_io::Failed;
 use std::alloc::{AllocError, Global};
+use std::fs;
 use std::test::Fail;
 
 /// The payload `aa`.
@@ -329,10 +330,11 @@ fn faults_have_their_texts(rt: HostRuntime) -> Result<(), Fail> {
 #[test]
 fn a_file_keeps_its_payload(rt: HostRuntime) -> Result<(), Fail> {
     let alloc = rt.alloc();
-    let mut disk = FileDisk::over(&rt, "helios.journal")?;
+    let _earlier = fs::remove_file(&rt, "added.journal");
+    let mut disk = FileDisk::over(&rt, "added.journal")?;
     let frame = frame_aa(alloc)?;
     assert_eq!(rt; add_first(alloc, &mut disk, 100, &frame), Ok(true));
-    let mut again = FileDisk::over(&rt, "helios.journal")?;
+    let mut again = FileDisk::over(&rt, "added.journal")?;
     assert!(rt; first_payload(alloc, &mut again)?.is_some());
     Ok(())
 }
