@@ -14,7 +14,8 @@ use Rattle.std.proofs.lemmas.List.Sums.{list_all-from_AllPass}
 use Rattle.std.proofs.lemmas.Nat.{div-mul-add, mod-mul-add, div-add-mod'}
 use Rattle.helios_model.specs.Limits.{longest_trip, greatest_latency}
 use Rattle.helios_model.specs.Offset.{offset}
-use Rattle.helios_model.specs.Plans.{PlanData, IsMatrix, IsPlan, count_of, rtt, latency, trip_at}
+use Rattle.helios_model.specs.Grid.{at}
+use Rattle.helios_model.specs.Plans.{PlanData, IsMatrix, IsPlan, count_of, rtt, latency}
 use Rattle.helios_model.specs.declared.plans.Certificate.{Certificate}
 use Rattle.helios_model.specs.Naming.{is_count}
 use Rattle.helios_model.specs.Passing.{EachMatrixPasses, EachSearchFindsFirst}
@@ -96,10 +97,10 @@ flat_square {T = T} h n (suc m) =
     ∙ places_more h n m n (omega arith)
     ∙ ap (λ q. map (by_place n h) (range_with_len 0 q)) (let same : m * n + n ≡ suc m * n = omega arith in same)
 
-trips_flat : (n : ℕ) (trips : List ℕ) → length trips ≡ n * n → flattened n n (trip_at n trips) ≡ trips
+trips_flat : (n : ℕ) (trips : List ℕ) → length trips ≡ n * n → flattened n n (at n trips) ≡ trips
 trips_flat n trips long =
-    flat_square (trip_at n trips) n n
-    ∙ sym (fill_by_all (by_place n (trip_at n trips)) trips (n * n) 0 long (λ k low. ap (λ p. get_or trips p 0) (sym (div-add-mod' k n))))
+    flat_square (at n trips) n n
+    ∙ sym (fill_by_all (by_place n (at n trips)) trips (n * n) 0 long (λ k low. ap (λ p. get_or trips p 0) (sym (div-add-mod' k n))))
 
 -- ---- fields
 
@@ -121,11 +122,11 @@ names_read passes names trips limits =
 even_true : EachMatrixPasses → (names : List (List ℕ)) (trips : List ℕ) → IsMatrix names trips → is_even (length names) trips ≡ true
 even_true passes names trips limits = and_from (is_none (first_uneven (length names) trips)) (is_none (first_away (length names) trips)) (ap is_none (passes names trips limits).even) (ap is_none (passes names trips limits).home)
 
-trips_read : EachMatrixPasses → (names : List (List ℕ)) (trips : List ℕ) → IsMatrix names trips → trips_of (length names) (square_data (length names) (λ i j. whole (trip_at (length names) trips i j))) ≡ Some trips
+trips_read : EachMatrixPasses → (names : List (List ℕ)) (trips : List ℕ) → IsMatrix names trips → trips_of (length names) (square_data (length names) (λ i j. whole (at (length names) trips i j))) ≡ Some trips
 unfolding trips_of
 trips_read passes names trips limits =
     let n : ℕ = length names in
-    ap (option_and_then (passing (is_even n))) (square_read n whole_number (λ i j. whole (trip_at n trips i j)) (trip_at n trips) (λ i j. refl) ∙ ap Some (trips_flat n trips limits.square))
+    ap (option_and_then (passing (is_even n))) (square_read n whole_number (λ i j. whole (at n trips i j)) (at n trips) (λ i j. refl) ∙ ap Some (trips_flat n trips limits.square))
     ∙ ap (λ b. cond b (Some trips) None) (even_true passes names trips limits)
 
 numbers_read : (n : ℕ) (xs : List ℕ) → length xs ≡ n → row_of n whole_number (array_data whole xs) ≡ Some xs

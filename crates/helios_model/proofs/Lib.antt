@@ -1,6 +1,5 @@
 pub mod Slices
-pub mod Offsets
-pub mod LawProofs
+pub mod OffsetTests
 pub mod PlanLimits
 pub mod EvenSquares
 pub mod GoodNames

@@ -9,7 +9,8 @@ use Rattle.std.proofs.lemmas.Nat.{div_below}
 use Rattle.helios_model.specs.Limits.{longest_trip}
 use Rattle.helios_model.specs.Naming.{is_bad_name}
 use Rattle.helios_model.specs.Passing.{EachMatrixPasses, EachSearchFindsFirst}
-use Rattle.helios_model.specs.Plans.{IsMatrix, trip_at}
+use Rattle.helios_model.specs.Grid.{at}
+use Rattle.helios_model.specs.Plans.{IsMatrix}
 use Rattle.helios_model.specs.Spellings.{is_name}
 use Rattle.helios_model.specs.Squares.{is_uneven, row_and_column}
 use Rattle.helios_model.specs.Texts.{IsName, all_differ, same_text}
@@ -49,12 +50,12 @@ none_before (x ∷ xs) differ (suc j) low =
     (fails_at (λ other. same_text other x) xs j (omega arith) (not_true (list_any (λ other. same_text other x) xs) parts.0))
     (none_before xs parts.1 j (omega arith))
 
-even_at : (n : ℕ) (trips : List ℕ) (place : ℕ) → 1 ≤ n → ((i j : ℕ) → i < n → j < n → trip_at n trips i j ≡ trip_at n trips j i) → place < n * n → is_uneven n trips place ≡ false
+even_at : (n : ℕ) (trips : List ℕ) (place : ℕ) → 1 ≤ n → ((i j : ℕ) → i < n → j < n → at n trips i j ≡ at n trips j i) → place < n * n → is_uneven n trips place ≡ false
 even_at n trips place some symmetric low =
     let row : place / n < n = div_below place n n some low in
     let column : place % n < n = omega arith in
-    second_false (nat_lt (place / n) (place % n)) (not (trip_at n trips (place / n) (place % n) == trip_at n trips (place % n) (place / n)))
-    (ap not (eq-eqb (trip_at n trips (place / n) (place % n)) (trip_at n trips (place % n) (place / n)) (symmetric (place / n) (place % n) row column)))
+    second_false (nat_lt (place / n) (place % n)) (not (at n trips (place / n) (place % n) == at n trips (place % n) (place / n)))
+    (ap not (eq-eqb (at n trips (place / n) (place % n)) (at n trips (place % n) (place / n)) (symmetric (place / n) (place % n) row column)))
 
 pub each_matrix_passes : EachMatrixPasses
 each_matrix_passes names trips matrix =
@@ -66,5 +67,5 @@ each_matrix_passes names trips matrix =
       short = ap (option_map (row_and_column n)) (find_none (λ place. nat_lt longest_trip (get_or trips place 0)) (length trips) (λ k low.
           le-ltb longest_trip (get_or trips k 0) (All-get_or (λ trip. trip ≤ longest_trip) trips k 0 low matrix.short)));
       even = ap (option_map (row_and_column n)) (find_none (is_uneven n trips) (n * n) (λ k low. even_at n trips k matrix.some matrix.symmetric low));
-      home = find_none (λ i. not (trip_at n trips i i == 0)) n (λ i low. ap not (eq-eqb (trip_at n trips i i) 0 (matrix.diagonal i low)));
+      home = find_none (λ i. not (at n trips i i == 0)) n (λ i low. ap not (eq-eqb (at n trips i i) 0 (matrix.diagonal i low)));
     }

@@ -4,6 +4,7 @@ pub mod Ids
 pub mod Spellings
 pub mod Transactions
 pub mod Spellable
+pub mod Grid
 pub mod Plans
 pub mod Squares
 pub mod Naming
@@ -20,4 +21,3 @@ pub mod Step
 pub mod World
 pub mod Serial
 pub mod NamedAbort
-pub mod Laws

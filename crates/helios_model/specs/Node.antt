@@ -7,6 +7,7 @@ use Rattle.helios_model.specs.declared.entries.State.{State}
 use Rattle.helios_model.specs.declared.entries.State.TheVariants.{Pending, Committed, Aborted, Unknown}
 use Rattle.helios_model.specs.Limits.{last_reading, spent_time}
 use Rattle.helios_model.specs.Transactions.{Transaction}
+use Rattle.helios_model.specs.Grid.{at, put}
 use Rattle.helios_model.specs.Plans.{PlanData, count_of}
 use Rattle.helios_model.specs.Log.{ends, prepare_of, unfinished}
 
@@ -15,12 +16,6 @@ pub record Node : Type 0 where
   pub site : ℕ
   pub log : List Record
   pub table : List ℕ
-
-abbrev pub at : ℕ → List ℕ → ℕ → ℕ → ℕ
-at count table row column = slice_index table (row * count + column)
-
-abbrev pub put : ℕ → List ℕ → ℕ → ℕ → ℕ → List ℕ
-put count table row column time = slice_set table (row * count + column) time
 
 abbrev pub empty_node : PlanData → ℕ → Node
 empty_node plan site = record { site = site; log = []; table = replicate (count_of plan * count_of plan) 0 }

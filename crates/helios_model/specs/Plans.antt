@@ -1,5 +1,6 @@
 -- Matrices of round trips and plans: what they hold, and which are within the limits and accepted.
 use Rattle.std.specs.Prelude.{◌≡◌, ◌≢◌, ℕ, ◌+◌, ◌*◌, ◌<◌, ◌≤◌, List, length, All, IsTrue, slice_index}
+use Rattle.helios_model.specs.Grid.{at}
 use Rattle.helios_model.specs.Texts.{IsName, all_differ}
 use Rattle.helios_model.specs.Limits.{most_sites, longest_trip, greatest_latency}
 
@@ -17,12 +18,9 @@ pub record PlanData : Type 0 where
 abbrev pub count_of : PlanData → ℕ
 count_of plan = length plan.names
 
--- the round trip between two sites of so many, in microseconds
-abbrev pub trip_at : ℕ → List ℕ → ℕ → ℕ → ℕ
-trip_at count trips i j = slice_index trips (i * count + j)
-
+-- the round trip between two sites, in microseconds
 abbrev pub rtt : PlanData → ℕ → ℕ → ℕ
-rtt plan i j = trip_at (count_of plan) plan.trips i j
+rtt plan i j = at (count_of plan) plan.trips i j
 
 abbrev pub latency : PlanData → ℕ → ℕ
 latency plan i = slice_index plan.latencies i
@@ -35,8 +33,8 @@ pub record IsMatrix (names : List (List ℕ)) (trips : List ℕ) : Type 0 where
   pub distinct : IsTrue (all_differ (λ name. name) names)
   pub square : length trips ≡ length names * length names
   pub short : All (λ trip. trip ≤ longest_trip) trips
-  pub symmetric : (i j : ℕ) → i < length names → j < length names → trip_at (length names) trips i j ≡ trip_at (length names) trips j i
-  pub diagonal : (i : ℕ) → i < length names → trip_at (length names) trips i i ≡ 0
+  pub symmetric : (i j : ℕ) → i < length names → j < length names → at (length names) trips i j ≡ at (length names) trips j i
+  pub diagonal : (i : ℕ) → i < length names → at (length names) trips i i ≡ 0
 
 -- the same with a latency for each site within its limit
 pub record IsPlan (names : List (List ℕ)) (trips latencies : List ℕ) : Type 0 where

@@ -2,7 +2,7 @@
 use Rattle.std.specs.Prelude.{◌≡◌, ℕ, ◌*◌, ◌/◌, ◌%◌, ◌<◌, ◌==◌, ◌&&◌, Bool, not, nat_lt, List, length, Option, option_map, find, slice_index}
 use Rattle.std.specs.List.{range_with_len}
 use Rattle.helios_model.specs.Limits.{longest_trip}
-use Rattle.helios_model.specs.Plans.{trip_at}
+use Rattle.helios_model.specs.Grid.{at}
 
 -- the first number below a bound that passes a test
 abbrev pub first_below : (ℕ → Bool) → ℕ → Option ℕ
@@ -21,7 +21,7 @@ first_too_long n trips = option_map (row_and_column n) (too_long_place trips)
 
 -- whether a place stands above the diagonal and has another number than its mirror image
 abbrev pub is_uneven : ℕ → List ℕ → ℕ → Bool
-is_uneven n trips place = nat_lt (place / n) (place % n) && not (trip_at n trips (place / n) (place % n) == trip_at n trips (place % n) (place / n))
+is_uneven n trips place = nat_lt (place / n) (place % n) && not (at n trips (place / n) (place % n) == at n trips (place % n) (place / n))
 
 -- the first such place
 abbrev pub uneven_place : ℕ → List ℕ → Option ℕ
@@ -32,12 +32,12 @@ first_uneven n trips = option_map (row_and_column n) (uneven_place n trips)
 
 -- the first site that is away from itself
 abbrev pub first_away : ℕ → List ℕ → Option ℕ
-first_away n trips = first_below (λ i. not (trip_at n trips i i == 0)) n
+first_away n trips = first_below (λ i. not (at n trips i i == 0)) n
 
 -- the square is the same read by columns
 abbrev pub IsSymmetric : ℕ → List ℕ → Type 0
-IsSymmetric n trips = (i j : ℕ) → i < n → j < n → trip_at n trips i j ≡ trip_at n trips j i
+IsSymmetric n trips = (i j : ℕ) → i < n → j < n → at n trips i j ≡ at n trips j i
 
 -- no site is away from itself
 abbrev pub IsZeroOnDiagonal : ℕ → List ℕ → Type 0
-IsZeroOnDiagonal n trips = (i : ℕ) → i < n → trip_at n trips i i ≡ 0
+IsZeroOnDiagonal n trips = (i : ℕ) → i < n → at n trips i i ≡ 0

@@ -1,4 +1,4 @@
-//! The data of the commit protocol, the definitions that all layers share, and the laws that follow from them.
+//! The data of the commit protocol, and the definitions that all layers share.
 //! The layers above use the types with their limits, `conflicts`, and the definitions of specs/.
 #![tactic(auto)]
 
@@ -6,10 +6,10 @@ mod entries;
 mod ids;
 mod keyed;
 mod keys;
-pub mod laws;
 mod limits;
 mod naming;
 mod numbers;
+mod offsets;
 mod pairings;
 mod passing;
 mod plans;
@@ -29,6 +29,7 @@ pub use limits::{
 };
 pub use naming::first_bad_name;
 pub use numbers::{Bytes, Places, Times};
+pub use offsets::offsets_are_tested;
 pub use pairings::{
     certificates_show_optimal, pairings_are_orders, pairings_bound, partners_add_up,
 };

@@ -1,7 +1,8 @@
 //! Names of sites, matrices of round trips, and plans with their certificates.
 ghost use Rattle.std.specs.Prelude.{◌≡◌, ℕ, List, IfOk, string_bytes, ◌<◌, ◌≤◌, ◌*◌, [], length, slice_index_or, sum, ◌^◌};
 ghost use Rattle.helios_model.specs.Limits.{longest_trip, greatest_latency};
-ghost use Rattle.helios_model.specs.Plans.{IsMatrix, IsPlan, count_of, trip_at, rtt, latency};
+ghost use Rattle.helios_model.specs.Grid.{at};
+ghost use Rattle.helios_model.specs.Plans.{IsMatrix, IsPlan, count_of, rtt, latency};
 
 use crate::ids::SiteId;
 use crate::numbers::{Places, Times};
@@ -133,7 +134,7 @@ impl Matrix {
     pub fn rtt(&self, i: SiteId, j: SiteId) -> u64
         requires row { i < length self.now.names }
         requires column { j < length self.now.names }
-        ensures value { result ≡ trip_at (length self.now.names) self.now.trips i j }
+        ensures value { result ≡ at (length self.now.names) self.now.trips i j }
         ensures bounded { result ≤ longest_trip }
     {
         let count = self.names.items().len();

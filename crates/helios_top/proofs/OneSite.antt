@@ -3,13 +3,14 @@ use Rattle.std.proofs.Common.{◌≡◌, ℕ, ◌<◌, ◌≤◌, [], ◌∷◌,
 use Rattle.std.proofs.lemmas.List.Elements.{All-cons, All-nil}
 use Rattle.helios_model.specs.Texts.{IsName, IsNameByte}
 use Rattle.helios_model.specs.Limits.{longest_trip, greatest_latency}
-use Rattle.helios_model.specs.Plans.{IsPlan, IsMatrix, IsAccepted, trip_at}
+use Rattle.helios_model.specs.Grid.{at}
+use Rattle.helios_model.specs.Plans.{IsPlan, IsMatrix, IsAccepted}
 use Rattle.helios_top.specs.Reading.{one_site}
 
 is_name : IsName (65 ∷ [])
 is_name = record { some = omega arith; most = omega arith; printable = All-cons IsNameByte 65 [] (omega arith, omega arith) (All-nil IsNameByte) }
 
-no_trip : (i : ℕ) → i < 1 → trip_at 1 (0 ∷ []) i i ≡ 0
+no_trip : (i : ℕ) → i < 1 → at 1 (0 ∷ []) i i ≡ 0
 no_trip i h = let zero : i ≡ 0 = omega arith in rw zero refl
 
 is_matrix : IsMatrix ((65 ∷ []) ∷ []) (0 ∷ [])

@@ -3,7 +3,8 @@ use Rattle.std.specs.Prelude.{◌≡◌, ℕ, ◌<◌, ℤ, pos, ◌+ℤ◌, ◌
 use Rattle.std.specs.List.{range_with_len}
 use Rattle.std.specs.List.Sorted.{IsPermutation}
 use Rattle.helios_model.specs.Limits.{longest_trip}
-use Rattle.helios_model.specs.Plans.{MatrixData, trip_at}
+use Rattle.helios_model.specs.Grid.{at}
+use Rattle.helios_model.specs.Plans.{MatrixData}
 use Rattle.latency_assign.specs.declared.potentials.Potentials.{Potentials}
 
 abbrev pub count_of : MatrixData → ℕ
@@ -15,7 +16,7 @@ sites_of m = range_with_len 0 (count_of m)
 
 -- the round trip between two sites, in microseconds
 abbrev pub distance : MatrixData → ℕ → ℕ → ℕ
-distance m i j = trip_at (count_of m) m.trips i j
+distance m i j = at (count_of m) m.trips i j
 
 abbrev pub potential : List ℤ → ℕ → ℤ
 potential potentials i = slice_index_or potentials i (pos 0)

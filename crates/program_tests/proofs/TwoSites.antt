@@ -6,7 +6,8 @@ use Rattle.helios_model.specs.Texts.{IsKey, IsValue, IsName, IsNameByte, all_dif
 use Rattle.helios_model.specs.Limits.{longest_trip, greatest_latency}
 use Rattle.helios_model.specs.declared.transactions.PutItem.{PutItem}
 use Rattle.helios_model.specs.Spellable.{AreSpellablePuts}
-use Rattle.helios_model.specs.Plans.{PlanData, IsAccepted, IsPlan, count_of, latency, rtt, trip_at}
+use Rattle.helios_model.specs.Grid.{at}
+use Rattle.helios_model.specs.Plans.{PlanData, IsAccepted, IsPlan, count_of, latency, rtt}
 use Rattle.schedule_replay.specs.declared.reads.PlannedRead.{PlannedRead}
 use Rattle.schedule_replay.specs.declared.inputs.Planned.TheVariants.{Request}
 use Rattle.schedule_replay.specs.Replayable.{IsGiven, IsPlannedBatch, IsPlannedInput}
@@ -30,13 +31,13 @@ small i h = by_zero (cases_eq i 0)
     by_zero (inl zero_is) = inl zero_is
     by_zero (inr other) = let one : i ≡ 1 = omega arith in inr one
 
-mirrored : (i j : ℕ) → (i ≡ 0) ⊎ (i ≡ 1) → (j ≡ 0) ⊎ (j ≡ 1) → trip_at 2 two_trips i j ≡ trip_at 2 two_trips j i
+mirrored : (i j : ℕ) → (i ≡ 0) ⊎ (i ≡ 1) → (j ≡ 0) ⊎ (j ≡ 1) → at 2 two_trips i j ≡ at 2 two_trips j i
 mirrored i j (inl a) (inl b) = rw (a, b) refl
 mirrored i j (inl a) (inr b) = rw (a, b) refl
 mirrored i j (inr a) (inl b) = rw (a, b) refl
 mirrored i j (inr a) (inr b) = rw (a, b) refl
 
-level : (i : ℕ) → (i ≡ 0) ⊎ (i ≡ 1) → trip_at 2 two_trips i i ≡ 0
+level : (i : ℕ) → (i ≡ 0) ⊎ (i ≡ 1) → at 2 two_trips i i ≡ 0
 level i (inl a) = rw a refl
 level i (inr a) = rw a refl
 

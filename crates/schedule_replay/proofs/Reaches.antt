@@ -8,7 +8,7 @@ use Rattle.helios_model.specs.declared.records.Record.{Record}
 use Rattle.schedule_replay.specs.declared.inputs.Planned.{Planned}
 use Rattle.schedule_replay.specs.declared.inputs.Planned.TheVariants.{Request}
 use Rattle.schedule_replay.proofs.Limits.{planned_asked}
-use Rattle.helios_model.specs.Laws.Safe.{EachWorldIsSafe, IsSafe}
+use Rattle.protocol_laws.specs.Safe.{EachWorldIsSafe, IsSafe}
 use Rattle.schedule_replay.specs.declared.steps.Step.{Step}
 use Rattle.schedule_replay.specs.declared.steps.Step.TheVariants.{Batch}
 use Rattle.schedule_replay.specs.Entries.{after_step, after_steps, entries_for, entry_for, event_for, events_for}

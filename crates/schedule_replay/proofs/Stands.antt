@@ -9,7 +9,7 @@ use Rattle.std.proofs.lemmas.List.Sums.{sum_by-append}
 use Rattle.helios_model.specs.Plans.{PlanData, count_of}
 use Rattle.helios_model.specs.Step.{after_entries}
 use Rattle.helios_model.specs.World.{World, Told, done, first_world, node_of, own_commits, replies}
-use Rattle.helios_model.specs.Laws.Moves.{BatchMovesOneNode}
+use Rattle.protocol_laws.specs.Moves.{BatchMovesOneNode}
 use Rattle.schedule_replay.specs.declared.inputs.Planned.{Planned}
 use Rattle.schedule_replay.specs.declared.steps.Step.{Step}
 use Rattle.schedule_replay.specs.declared.steps.Step.TheVariants.{Batch}

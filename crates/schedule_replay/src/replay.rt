@@ -5,7 +5,7 @@ ghost use Rattle.helios_model.specs.Plans.{count_of};
 ghost use Rattle.schedule_replay.specs.Entries.{inputs_of, site_of};
 ghost use Rattle.schedule_replay.specs.Replay.{IsReport};
 ghost use Rattle.schedule_replay.specs.Replayable.{IsPlannedStep, IsReplayable, most_steps};
-ghost use Rattle.helios_model.specs.Laws.Safe.{IsSafe};
+ghost use Rattle.protocol_laws.specs.Safe.{IsSafe};
 ghost use Rattle.helios_model.specs.Serial.{IsSerial};
 ghost use Rattle.helios_model.specs.World.{StepsReach};
 ghost use Rattle.schedule_replay.specs.Report.{commit_line, reached, site_line};
@@ -17,7 +17,7 @@ use crate::node::Core;
 use crate::schedule::{Report, Schedule};
 use crate::sites::{Output, run_batch};
 use crate::steps::Step;
-use helios_model::laws::{batch_moves_one_node, each_world_is_safe};
+use protocol_laws::{batch_moves_one_node, each_world_is_safe};
 use helios_model::{Bytes, CommitEvent, Commits, Plan, SiteId};
 use std::alloc::{AllocError, Global};
 

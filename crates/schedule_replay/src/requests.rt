@@ -6,7 +6,7 @@ ghost use Rattle.helios_model.specs.Step.{step};
 
 use crate::node::Core;
 use crate::scan::{current_version, first_clash, first_stale, is_finished};
-use helios_model::laws::asked_is_transaction;
+use protocol_laws::asked_is_transaction;
 use helios_model::{
     Ask, Entry, Input, LAST_READING, MOST_OPEN, Prepare, PutItem, Puts, Record, Reply, SPENT_TIME,
     Time, TxnId, WriteItem, Writes,

@@ -1,6 +1,6 @@
 -- `helios replay`: the input is a schedule, and what is printed is the report of the world that its steps reach.
 use Rattle.std.specs.Prelude.{◌≡◌, List, ℕ, IsSomeAnd}
-use Rattle.helios_model.specs.Laws.Safe.{IsSafe}
+use Rattle.protocol_laws.specs.Safe.{IsSafe}
 use Rattle.helios_model.specs.World.{StepsReach}
 use Rattle.schedule_replay.specs.declared.schedule.Schedule.{Schedule}
 use Rattle.schedule_replay.specs.Report.{reached, report_of}
