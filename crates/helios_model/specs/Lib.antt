@@ -14,6 +14,7 @@ pub mod Optimal
 pub mod Short
 pub mod Pairings
 pub mod Log
+pub mod Exchange
 pub mod Node
 pub mod Settle
 pub mod Request

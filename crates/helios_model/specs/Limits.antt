@@ -29,6 +29,10 @@ greatest_latency = 2000000000
 abbrev pub most_items : ℕ
 most_items = 16
 
+-- the most records of one message
+abbrev pub most_records : ℕ
+most_records = 64
+
 -- the most inputs of one batch
 abbrev pub most_inputs : ℕ
 most_inputs = 16

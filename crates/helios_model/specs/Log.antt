@@ -1,5 +1,5 @@
 -- What a log of records says: which transactions are open, which committed, and the current versions.
-use Rattle.std.specs.Prelude.{Bool, false, ℕ, List, [], Option, Some, None, not, if◌then◌else◌, filter, fold, find}
+use Rattle.std.specs.Prelude.{Bool, false, ℕ, List, [], Option, Some, None, not, nat_eq, if◌then◌else◌, filter, fold, find}
 use Rattle.std.specs.List.{list_any, filter_map}
 use Rattle.std.specs.Option.{option_map}
 use Rattle.helios_model.specs.declared.ids.TxnId.{TxnId}
@@ -48,6 +48,10 @@ prepares log = filter_map prepare_in log
 -- the Prepare of an id
 abbrev pub prepare_of : List Record → TxnId → Option Transaction
 prepare_of log id = find (λ p. same_id p.id id) (prepares log)
+
+-- whether a site made this transaction
+abbrev pub is_own : ℕ → Transaction → Bool
+is_own site p = nat_eq p.id.site site
 
 -- the Prepares, in log order, with no Commit or Abort of their id
 abbrev pub unfinished : List Record → List Transaction

@@ -9,7 +9,7 @@ use Rattle.helios_model.specs.Limits.{last_reading, spent_time}
 use Rattle.helios_model.specs.Transactions.{Transaction}
 use Rattle.helios_model.specs.Grid.{at, put}
 use Rattle.helios_model.specs.Plans.{PlanData, count_of}
-use Rattle.helios_model.specs.Log.{ends, prepare_of, unfinished}
+use Rattle.helios_model.specs.Log.{ends, is_own, prepare_of, unfinished}
 
 -- a site: its number, its whole log in order of arrival, and its table of times, row after row
 pub record Node : Type 0 where
@@ -45,9 +45,6 @@ next_time plan n reading = max (clamp reading) (clock plan n + 1)
 -- the site's clock has come to its end
 abbrev pub is_spent : PlanData → Node → Bool
 is_spent plan n = nat_le spent_time (clock plan n)
-
-abbrev pub is_own : ℕ → Transaction → Bool
-is_own site p = nat_eq p.id.site site
 
 -- the node's own unfinished transactions, in log order
 abbrev pub own_open : Node → List Transaction

@@ -7,6 +7,7 @@ mod ids;
 mod keyed;
 mod keys;
 mod limits;
+mod messages;
 mod naming;
 mod numbers;
 mod offsets;
@@ -25,8 +26,9 @@ pub use keyed::{Keyed, keys_differ};
 pub use keys::{Key, Keys, Val};
 pub use limits::{
     GREATEST_LATENCY, LAST_READING, LAST_TIME, LONGEST_TRIP, MOST_INPUTS, MOST_ITEMS,
-    MOST_KEY_BYTES, MOST_NAME_BYTES, MOST_OPEN, MOST_SITES, MOST_VALUE_BYTES, SPENT_TIME,
+    MOST_KEY_BYTES, MOST_NAME_BYTES, MOST_OPEN, MOST_RECORDS, MOST_SITES, MOST_VALUE_BYTES, SPENT_TIME,
 };
+pub use messages::Message;
 pub use naming::first_bad_name;
 pub use numbers::{Bytes, Places, Times};
 pub use offsets::offsets_are_tested;

@@ -21,6 +21,9 @@ pub const GREATEST_LATENCY: u64 = 2_000_000_000;
 /// The most keys that a transaction reads, and the most that it writes.
 pub const MOST_ITEMS: usize = 16;
 
+/// The most records of one message.
+pub const MOST_RECORDS: usize = 64;
+
 /// The most inputs of one batch.
 pub const MOST_INPUTS: usize = 16;
 

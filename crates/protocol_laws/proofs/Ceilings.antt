@@ -12,8 +12,8 @@ use Rattle.helios_model.specs.Limits.{most_open, spent_time}
 use Rattle.helios_model.specs.Ids.{same_id}
 use Rattle.helios_model.specs.Transactions.{Transaction, Asking}
 use Rattle.helios_model.specs.Plans.{PlanData, count_of}
-use Rattle.helios_model.specs.Log.{ends, finished, prepares, unfinished}
-use Rattle.helios_model.specs.Node.{Node, empty_node, clock, next_time, is_own, is_spent, own_open}
+use Rattle.helios_model.specs.Log.{ends, finished, prepares, unfinished, is_own}
+use Rattle.helios_model.specs.Node.{Node, empty_node, clock, next_time, is_spent, own_open}
 use Rattle.helios_model.specs.Settle.{is_reached, commit_one, settle}
 use Rattle.helios_model.specs.Request.{entered, asked, next_id, refusal, unless_refused}
 use Rattle.helios_model.specs.Step.{by_clock, is_journaled, after_entry, after_entries}

@@ -12,8 +12,8 @@ use Rattle.helios_model.specs.Ids.{same_id}
 use Rattle.helios_model.specs.Transactions.{Transaction}
 use Rattle.helios_model.specs.Plans.{PlanData, count_of, rtt, latency}
 use Rattle.helios_model.specs.Offset.{is_past}
-use Rattle.helios_model.specs.Log.{finished, prepares, prepare_of, unfinished, commits, current}
-use Rattle.helios_model.specs.Node.{Node, known, clock, is_own, own_open, with_record}
+use Rattle.helios_model.specs.Log.{finished, prepares, prepare_of, unfinished, commits, current, is_own}
+use Rattle.helios_model.specs.Node.{Node, known, clock, own_open, with_record}
 use Rattle.helios_model.specs.Settle.{is_reached, commit_one, settle}
 use Rattle.helios_model.specs.Serial.{Follows, IsSerial}
 use Rattle.protocol_laws.specs.Placed.{IsPlaced}

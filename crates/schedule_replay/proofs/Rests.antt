@@ -15,9 +15,9 @@ use Rattle.schedule_replay.specs.Report.{commit_line, refusals_in, site_line}
 use Rattle.schedule_replay.specs.Standing.{reply_lines}
 use Rattle.helios_model.specs.Ids.{same_id}
 use Rattle.helios_model.specs.Transactions.{Transaction, Asking, keys_conflict, touched_by, touched_by_ask}
-use Rattle.helios_model.specs.Log.{prepare_in, commit_in, version_after, finished}
+use Rattle.helios_model.specs.Log.{prepare_in, commit_in, version_after, finished, is_own}
 use Rattle.helios_model.specs.Plans.{PlanData}
-use Rattle.helios_model.specs.Node.{Node, is_own}
+use Rattle.helios_model.specs.Node.{Node}
 use Rattle.helios_model.specs.Settle.{is_reached}
 use Rattle.std.specs.Prelude.{not}
 

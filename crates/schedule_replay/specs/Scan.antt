@@ -5,10 +5,10 @@ use Rattle.helios_model.specs.declared.records.Record.TheVariants.{Prepare, Comm
 use Rattle.helios_model.specs.Ids.{same_id}
 use Rattle.helios_model.specs.Transactions.{Transaction}
 use Rattle.helios_model.specs.declared.records.CommitEvent.{CommitEvent}
-use Rattle.helios_model.specs.Log.{commit_in, finished, prepare_of}
+use Rattle.helios_model.specs.Log.{commit_in, finished, prepare_of, is_own}
 use Rattle.helios_model.specs.World.{is_own_commit}
 use Rattle.helios_model.specs.Plans.{PlanData}
-use Rattle.helios_model.specs.Node.{Node, is_own}
+use Rattle.helios_model.specs.Node.{Node}
 use Rattle.helios_model.specs.Settle.{is_reached}
 
 -- the transaction of a record, where it is the Prepare of this id

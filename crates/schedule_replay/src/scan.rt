@@ -2,8 +2,7 @@
 ghost use Rattle.std.specs.Prelude.{◌≡◌, IfOk, filter, length};
 ghost use Rattle.std.specs.Option.{option_map};
 ghost use Rattle.helios_model.specs.Ids.{same_id, same_version};
-ghost use Rattle.helios_model.specs.Log.{current, ends, event_at, finished, prepare_of, unfinished};
-ghost use Rattle.helios_model.specs.Node.{is_own};
+ghost use Rattle.helios_model.specs.Log.{current, ends, event_at, finished, prepare_of, unfinished, is_own};
 ghost use Rattle.helios_model.specs.Request.{clash, stale_read};
 ghost use Rattle.schedule_replay.specs.Scan.{named_in, open_in, own_commit_in, own_event, own_open_in, transaction_in};
 
