@@ -1,6 +1,6 @@
 -- Texts of which none may not stand in a list of names.
-use Rattle.std.proofs.Common.{◌≡◌, ℕ, zero, suc, ◌+◌, ◌<◌, ◌≤◌, Bool, true, false, ◌&&◌, ◌||◌, List, [], ◌∷◌, Option, None, Some, length, get_or, take, refl, sym, ◌∙◌, ap, arith}
-use Rattle.std.specs.Prelude.{not, All, IfNone}
+use Rattle.std.proofs.Common.{◌≡◌, ℕ, suc, ◌<◌, Bool, true, false, ◌&&◌, ◌||◌, List, [], ◌∷◌, Option, None, Some, length, get_or, take, refl, sym, ◌∙◌, ap, arith}
+use Rattle.std.specs.Prelude.{not, IfNone}
 use Rattle.std.specs.List.{list_any}
 use Rattle.std.proofs.lemmas.List.Elements.{All-from_get_or}
 use Rattle.std.proofs.lemmas.List.Folds.{list_any_none}

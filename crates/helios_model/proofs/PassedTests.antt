@@ -1,5 +1,5 @@
 -- A matrix passes the tests of its names and round trips.
-use Rattle.std.proofs.Common.{◌≡◌, ℕ, zero, suc, ◌+◌, ◌*◌, ◌/◌, ◌%◌, ◌<◌, ◌≤◌, Bool, true, false, ◌&&◌, ◌||◌, List, [], ◌∷◌, None, length, get_or, take, refl, sym, ◌∙◌, ap, arith}
+use Rattle.std.proofs.Common.{◌≡◌, ℕ, zero, suc, ◌*◌, ◌/◌, ◌%◌, ◌<◌, ◌≤◌, Bool, true, false, ◌&&◌, ◌||◌, List, [], ◌∷◌, length, get_or, take, refl, ap, arith}
 use Rattle.std.specs.Prelude.{nat_lt, ◌==◌, not, option_map}
 use Rattle.std.specs.List.{list_any}
 use Rattle.std.proofs.lemmas.Bool.{le-ltb, eq-eqb, and_parts}
@@ -10,7 +10,6 @@ use Rattle.helios_model.specs.Limits.{longest_trip}
 use Rattle.helios_model.specs.Naming.{is_bad_name}
 use Rattle.helios_model.specs.Passing.{EachMatrixPasses, EachSearchFindsFirst}
 use Rattle.helios_model.specs.Grid.{at}
-use Rattle.helios_model.specs.Plans.{IsMatrix}
 use Rattle.helios_model.specs.Spellings.{is_name}
 use Rattle.helios_model.specs.Squares.{is_uneven, row_and_column}
 use Rattle.helios_model.specs.Texts.{IsName, all_differ, same_text}

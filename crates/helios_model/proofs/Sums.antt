@@ -1,8 +1,5 @@
 -- Sums over the numbers below n.
-use Rattle.std.proofs.Common.{◌≡◌, ℕ, zero, suc, ◌+◌, ◌*◌, ◌<◌, ◌≤◌, List, length, map, get_or, refl, sym, ◌∙◌, ap, arith, add-one}
-use Rattle.std.specs.List.{sum, range_with_len}
-use Rattle.std.proofs.lemmas.List.FromFn.{map-range_with_len_more, fill_by_all}
-use Rattle.std.proofs.lemmas.List.Sums.{sum_by_push}
+use Rattle.std.proofs.Common.{◌≡◌, ℕ, zero, suc, ◌+◌, ◌*◌, ◌<◌, ◌≤◌, sym, ◌∙◌, ap, arith, add-one}
 use Rattle.std.proofs.Math.Nat.{mul-add}
 use Rattle.helios_model.specs.Pairings.{sum_below, sum_below_more}
 

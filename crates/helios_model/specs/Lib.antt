@@ -3,7 +3,6 @@ pub mod Texts
 pub mod Ids
 pub mod Spellings
 pub mod Transactions
-pub mod Spellable
 pub mod Grid
 pub mod Plans
 pub mod Squares
@@ -14,11 +13,16 @@ pub mod Optimal
 pub mod Short
 pub mod Pairings
 pub mod Log
+pub mod Spellable
+pub mod Sequences
 pub mod Exchange
 pub mod Node
 pub mod Settle
 pub mod Request
+pub mod Messages
 pub mod Step
 pub mod World
 pub mod Serial
 pub mod NamedAbort
+pub mod Knowledge
+pub mod ConflictOrder

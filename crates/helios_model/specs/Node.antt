@@ -1,8 +1,9 @@
 -- A site's node: its number, its whole log and its table of times.
-use Rattle.std.specs.Prelude.{Bool, ℕ, ◌+◌, ◌*◌, List, [], ◌∷◌, ◌++◌, Option, Some, None, ◌&&◌, nat_eq, nat_le, min, max, replicate, slice_index, slice_set, if◌then◌else◌, find, filter, is_some}
+use Rattle.std.specs.Prelude.{Bool, ℕ, ◌+◌, ◌*◌, List, [], ◌∷◌, ◌++◌, Option, Some, None, ◌&&◌, nat_eq, nat_le, min, max, replicate, if◌then◌else◌, find, filter, is_some}
 use Rattle.helios_model.specs.declared.ids.TxnId.{TxnId}
 use Rattle.helios_model.specs.declared.records.Record.{Record}
 use Rattle.helios_model.specs.declared.records.Record.TheVariants.{Prepare, Commit, Abort}
+use Rattle.helios_model.specs.declared.entries.Reply.{Reply}
 use Rattle.helios_model.specs.declared.entries.State.{State}
 use Rattle.helios_model.specs.declared.entries.State.TheVariants.{Pending, Committed, Aborted, Unknown}
 use Rattle.helios_model.specs.Limits.{last_reading, spent_time}
@@ -16,6 +17,11 @@ pub record Node : Type 0 where
   pub site : ℕ
   pub log : List Record
   pub table : List ℕ
+
+-- a node's answer to an input, and the node after it
+pub record Stepped : Type 0 where
+  pub reply : Reply
+  pub node : Node
 
 abbrev pub empty_node : PlanData → ℕ → Node
 empty_node plan site = record { site = site; log = []; table = replicate (count_of plan * count_of plan) 0 }

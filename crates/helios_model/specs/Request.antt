@@ -14,13 +14,8 @@ use Rattle.helios_model.specs.Ids.{same_version}
 use Rattle.helios_model.specs.Transactions.{Transaction, Asking, keys_conflict, touched_by, touched_by_ask}
 use Rattle.helios_model.specs.Plans.{PlanData}
 use Rattle.helios_model.specs.Log.{current, finished, unfinished}
-use Rattle.helios_model.specs.Node.{Node, next_time, own_open, with_clock, with_record}
+use Rattle.helios_model.specs.Node.{Node, Stepped, next_time, own_open, with_clock, with_record}
 use Rattle.helios_model.specs.Settle.{settle}
-
--- a node's answer to an input, and the node after it
-pub record Stepped : Type 0 where
-  pub reply : Reply
-  pub node : Node
 
 -- first, there is no room for one more own transaction
 abbrev pub room_refusal : Node → Option Reply

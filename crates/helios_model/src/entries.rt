@@ -1,19 +1,27 @@
 //! What a node is asked, and what it answers.
-ghost use Rattle.std.specs.Prelude.{◌≡◌, ℕ, List, IfOk};
+ghost use Rattle.std.specs.Prelude.{◌≡◌, ℕ, List};
 ghost use Rattle.helios_model.specs.declared.entries.Entry.{Entry};
 ghost use Rattle.helios_model.specs.declared.entries.Reply.{Reply};
 
-use crate::ids::{TxnId, Version};
-use crate::keys::Key;
+use crate::ids::{SiteId, TxnId, Version};
+use crate::keys::{Key, Val};
+use crate::messages::Message;
 use crate::transactions::Ask;
-use std::alloc::AllocError;
 use std::marker::Model;
 
 /// What a node is asked.
 #[derive(Clone, Debug, Drop)]
 pub enum Input {
+    /// For the current version and value of a key.
+    Get(Key),
+    /// For what is known of a transaction at its site.
+    Status(TxnId),
     /// To take a transaction.
     Request(Ask),
+    /// For a message to another site.
+    Pull(SiteId),
+    /// To take a message of another site in.
+    Push(Message),
 }
 
 /// An input, and the reading of the site's clock that it is answered at, in half microseconds.
@@ -66,7 +74,7 @@ pub enum State {
 }
 
 /// A node's answer to an input.
-#[derive(Clone, Debug, PartialEq, Eq, Drop)]
+#[derive(Clone, Debug, Drop)]
 pub enum Reply {
     /// The transaction was taken under this name, and is not decided yet.
     Prepared(TxnId),
@@ -76,6 +84,14 @@ pub enum Reply {
     Overwritten { key: Key, current: Version },
     /// The first unfinished transaction that conflicts.
     Conflict(TxnId),
+    /// The current version and value of a key.
+    Value { version: Version, value: Val },
+    /// What is known of a transaction.
+    State(State),
+    /// The message to the other site.
+    Sent(Message),
+    /// The message was taken in.
+    Taken,
     /// The site's clock has come to its end; nothing changed.
     ClockSpent,
     /// The site has as many unfinished transactions as it may have; nothing changed.
@@ -111,11 +127,5 @@ impl Replies {
         ensures { result.items ≡ self }
     {
         self.items
-    }
-
-    pub fn copy(&self) -> Result<Replies, AllocError>
-        ensures { IfOk result (λ copied. copied ≡ self.now) }
-    {
-        self.clone()
     }
 }

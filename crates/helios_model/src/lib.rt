@@ -26,7 +26,8 @@ pub use keyed::{Keyed, keys_differ};
 pub use keys::{Key, Keys, Val};
 pub use limits::{
     GREATEST_LATENCY, LAST_READING, LAST_TIME, LONGEST_TRIP, MOST_INPUTS, MOST_ITEMS,
-    MOST_KEY_BYTES, MOST_NAME_BYTES, MOST_OPEN, MOST_RECORDS, MOST_SITES, MOST_VALUE_BYTES, SPENT_TIME,
+    MOST_KEY_BYTES, MOST_NAME_BYTES, MOST_OPEN, MOST_RECORDS, MOST_SITES, MOST_VALUE_BYTES,
+    SPENT_TIME,
 };
 pub use messages::Message;
 pub use naming::first_bad_name;

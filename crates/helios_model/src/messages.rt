@@ -1,7 +1,10 @@
 //! What a site sends to another one.
+ghost use Rattle.std.specs.Prelude.{◌≡◌, IfOk};
+
 use crate::ids::SiteId;
 use crate::numbers::Times;
 use crate::records::Records;
+use std::alloc::{AllocError, Global};
 
 /// A message from one site to another one: the sender's table of times, row after row, in half microseconds; up to when it
 /// tells of each site, in half microseconds; and the records of the sender's log that the other site is not known to have.
@@ -14,4 +17,19 @@ pub struct Message {
     pub table: Times,
     pub cover: Times,
     pub records: Records,
+}
+
+impl Message {
+    pub fn copy(&self, alloc: Global) -> Result<Message, AllocError>
+        ensures { IfOk result (λ copied. copied ≡ self.now) }
+    {
+        Ok(Message {
+            from: self.from,
+            to: self.to,
+            count: self.count,
+            table: self.table.copy()?,
+            cover: self.cover.copy()?,
+            records: self.records.copy(alloc)?,
+        })
+    }
 }

@@ -5,6 +5,7 @@ ghost use Rattle.helios_model.specs.declared.records.CommitEvent.{CommitEvent};
 
 use crate::ids::{Time, TxnId};
 use crate::transactions::Prepare;
+use std::alloc::{AllocError, Global};
 use std::marker::Model;
 
 /// One record of a site's log.
@@ -16,6 +17,14 @@ pub enum Record {
     Commit { id: TxnId, time: Time },
     /// The site of this transaction aborted it, at this time, since it conflicts with the cause.
     Abort { id: TxnId, time: Time, cause: TxnId },
+}
+
+impl Record {
+    pub fn copy(&self) -> Result<Record, AllocError>
+        ensures { IfOk result (λ copied. copied ≡ self.now) }
+    {
+        self.clone()
+    }
 }
 
 /// Records of a log, in its order.
@@ -47,6 +56,16 @@ impl Records {
         ensures { result.items ≡ self }
     {
         self.items
+    }
+
+    pub fn copy(&self, alloc: Global) -> Result<Records, AllocError>
+        ensures { IfOk result (λ copied. copied ≡ self.now) }
+    {
+        let mut items = Vec::with_capacity(alloc, self.items.len())?;
+        for r in self.items.as_slice() {
+            items.push(r.copy()?)?;
+        }
+        Ok(Records { items })
     }
 }
 

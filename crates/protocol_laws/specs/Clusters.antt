@@ -4,7 +4,7 @@ use Rattle.std.specs.Prelude.{◌≡◌, ℕ, ◌≤◌, List, ◌⊎◌}
 use Rattle.helios_model.specs.declared.records.Record.{Record}
 use Rattle.helios_model.specs.declared.records.CommitEvent.{CommitEvent}
 use Rattle.helios_model.specs.Log.{origin, own_time}
-use Rattle.protocol_laws.specs.Sequences.{Mem, Before, Rising, last_own, of, upto, over}
+use Rattle.helios_model.specs.Sequences.{Mem, Before, Rising, last_own, of, upto, over}
 
 -- a message: its sender's table, up to when it tells of each site, and records of the sender's log
 pub record Letter : Type 0 where

@@ -11,6 +11,5 @@ pub mod Ceiling
 pub mod Times
 pub mod Symmetry
 pub mod Moves
-pub mod Sequences
 pub mod Clusters
 pub mod SmallSteps

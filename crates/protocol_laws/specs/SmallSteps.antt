@@ -9,7 +9,7 @@ use Rattle.helios_model.specs.Offset.{is_past}
 use Rattle.helios_model.specs.Log.{event_at, unfinished}
 use Rattle.helios_model.specs.Exchange.{Intake, cover_at, left_off, sent_records, take_all}
 use Rattle.protocol_laws.specs.Order.{IsAsked}
-use Rattle.protocol_laws.specs.Sequences.{Mem}
+use Rattle.helios_model.specs.Sequences.{Mem}
 use Rattle.protocol_laws.specs.Clusters.{Cluster, Letter}
 
 -- a site's log and the history grow at their ends, its times do not fall, and nothing else changes
