@@ -1,5 +1,3 @@
-pub mod Worlds
-pub mod Placed
 pub mod Lists
 pub mod Ids
 pub mod OneMore
@@ -7,17 +5,5 @@ pub mod Committed
 pub mod Fits
 pub mod PoolSteps
 pub mod OrderSteps
-pub mod NodeSteps
 pub mod SerialSteps
-pub mod Settling
-pub mod Requests
-pub mod Starts
-pub mod LogLaws
-pub mod Replies
-pub mod ReachedWorlds
-pub mod Unheard
-pub mod SerialHistories
-pub mod ToldLaws
-pub mod Safe
-pub mod Ceilings
-pub mod Spelling
+pub mod Asks

@@ -6,7 +6,6 @@ pub mod Order
 pub mod Nodes
 pub mod Logs
 pub mod Histories
-pub mod Safe
 pub mod Ceiling
 pub mod Times
 pub mod Symmetry

@@ -8,7 +8,7 @@ use Rattle.helios_model.specs.declared.records.Record.TheVariants.{Prepare, Comm
 use Rattle.helios_model.specs.Ids.{same_id}
 use Rattle.helios_model.specs.Transactions.{Transaction, conflict}
 use Rattle.helios_model.specs.Plans.{PlanData, count_of}
-use Rattle.helios_model.specs.Log.{origin, ends, finished, prepares, current}
+use Rattle.helios_model.specs.Log.{ends, finished, prepares, current}
 use Rattle.helios_model.specs.Node.{Node, empty_node}
 use Rattle.helios_model.specs.Serial.{Follows}
 use Rattle.helios_model.specs.Step.{after_entry, after_entries}
@@ -21,15 +21,7 @@ use Rattle.protocol_laws.specs.Nodes.{OwnTimesRise, IsWaited}
 abbrev pub EachTimeRises : Type 0
 EachTimeRises = AtEachNode OwnTimesRise
 
--- each record of the log is the site's own: so it is as long as sites tell each other nothing
-abbrev pub LogIsOwn : PlanData → Node → Type 0
-LogIsOwn plan n = All (λ r. origin r ≡ n.site) n.log
-
-abbrev pub EachLogIsOwn : Type 0
-EachLogIsOwn = AtEachNode LogIsOwn
-
--- no two Prepares of a log have one id, and a Prepare of an id is the same in each log; as long as sites tell each other
--- nothing, no two logs hold one id
+-- no two Prepares of a log have one id, and a Prepare of an id is the same in each log
 pub record IdsAreGivenOnce (plan : PlanData) (w : World) : Type 0 where
   pub in_log : (k : ℕ) → k < count_of plan → AllPairs (λ p q. same_id p.id q.id ≡ false) (prepares (node_of plan w k).log)
   pub across : (i j : ℕ) → i < count_of plan → j < count_of plan → (p q : Transaction) → Contains (prepares (node_of plan w i).log) p
@@ -78,13 +70,6 @@ pub record ConflictsAreOrdered (plan : PlanData) (n : Node) : Type 0 where
 
 abbrev pub EachConflictIsOrdered : Type 0
 EachConflictIsOrdered = AtEachNode ConflictsAreOrdered
-
--- as long as sites tell each other nothing, the earlier of two that conflict is ended before the later one is taken
-abbrev pub EarlierEndsFirst : PlanData → Node → Type 0
-EarlierEndsFirst plan n = (p q : Transaction) → EndsFirst n.log p q
-
-abbrev pub EachEarlierEndsFirst : Type 0
-EachEarlierEndsFirst = AtEachNode EarlierEndsFirst
 
 abbrev pub FollowsBefore : ℕ → List Record → Record → Type 0
 FollowsBefore site before (Prepare p) = p.id.site ≡ site → Follows (current before) p

@@ -1,5 +1,0 @@
-use Rattle.protocol_laws.proofs.Spelling.{each_entry_may_be_asked}
-use Rattle.protocol_laws.proofs.laws.each_entry_may_be_asked.Goals as goal
-
-pub returns : goal.returns
-returns c = each_entry_may_be_asked

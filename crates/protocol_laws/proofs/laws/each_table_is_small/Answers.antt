@@ -1,5 +1,0 @@
-use Rattle.protocol_laws.proofs.Spelling.{each_table_is_small}
-use Rattle.protocol_laws.proofs.laws.each_table_is_small.Goals as goal
-
-pub returns : goal.returns
-returns c = each_table_is_small

@@ -1,5 +1,0 @@
-use Rattle.protocol_laws.proofs.LogLaws.{each_version_was_current}
-use Rattle.protocol_laws.proofs.laws.each_version_was_current.Goals as goal
-
-pub returns : goal.returns
-returns c = each_version_was_current

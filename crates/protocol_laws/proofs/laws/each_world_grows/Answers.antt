@@ -1,5 +1,0 @@
-use Rattle.protocol_laws.proofs.ReachedWorlds.{each_world_grows}
-use Rattle.protocol_laws.proofs.laws.each_world_grows.Goals as goal
-
-pub returns : goal.returns
-returns c = each_world_grows

@@ -1,5 +1,0 @@
-use Rattle.protocol_laws.proofs.SerialHistories.{history_is_serial}
-use Rattle.protocol_laws.proofs.laws.history_is_serial.Goals as goal
-
-pub returns : goal.returns
-returns c = history_is_serial

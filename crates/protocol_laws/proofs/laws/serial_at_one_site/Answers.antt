@@ -1,5 +1,0 @@
-use Rattle.protocol_laws.proofs.SerialHistories.{serial_at_one_site}
-use Rattle.protocol_laws.proofs.laws.serial_at_one_site.Goals as goal
-
-pub returns : goal.returns
-returns c = serial_at_one_site
