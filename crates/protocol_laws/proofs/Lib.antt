@@ -21,3 +21,6 @@ pub mod ToldLaws
 pub mod Safe
 pub mod Ceilings
 pub mod Spelling
+pub mod Sequences
+pub mod Rising
+pub mod KnownRecords
