@@ -7,3 +7,6 @@ pub mod PoolSteps
 pub mod OrderSteps
 pub mod SerialSteps
 pub mod Asks
+pub mod Sequences
+pub mod Rising
+pub mod KnownRecords
