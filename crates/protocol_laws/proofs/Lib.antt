@@ -7,3 +7,5 @@ pub mod PoolSteps
 pub mod OrderSteps
 pub mod SerialSteps
 pub mod Asks
+pub mod Worlds
+pub mod Placed
