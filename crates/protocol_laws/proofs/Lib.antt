@@ -10,3 +10,5 @@ pub mod Asks
 pub mod Sequences
 pub mod Rising
 pub mod KnownRecords
+pub mod Worlds
+pub mod Placed

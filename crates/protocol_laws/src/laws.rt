@@ -1,5 +1,7 @@
 //! Each law is carried by a function with an empty body, whose one clause states it of every plan and every list of
 //! steps.
+ghost use Rattle.protocol_laws.specs.Placed.{EachNodeIsPlaced};
+ghost use Rattle.protocol_laws.specs.Moves.{BatchMovesOneNode};
 ghost use Rattle.protocol_laws.specs.Symmetry.{ConflictIsSymmetric};
 ghost use Rattle.protocol_laws.specs.Times.{AskedIsTransaction};
 
@@ -11,4 +13,16 @@ pub fn conflict_is_symmetric()
 /// What a request within the limits becomes, over any log, is a transaction within the limits.
 pub fn asked_is_transaction()
     ensures { AskedIsTransaction }
+{}
+
+/// In each world that is reached there is a journal for each site, and each site's node has the site's number
+/// and a table with one time for each two sites.
+pub fn each_node_is_placed()
+    ensures { EachNodeIsPlaced }
+{}
+
+/// A batch that was made durable moves its own site's node by its entries, and no other node; a batch that was lost and a
+/// restart move none. An input that is not journaled leaves the node as it is.
+pub fn batch_moves_one_node()
+    ensures { BatchMovesOneNode }
 {}

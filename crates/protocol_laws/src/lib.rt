@@ -3,4 +3,4 @@
 
 mod laws;
 
-pub use laws::{asked_is_transaction, conflict_is_symmetric};
+pub use laws::{asked_is_transaction, batch_moves_one_node, conflict_is_symmetric, each_node_is_placed};
