@@ -12,3 +12,4 @@ pub mod Rising
 pub mod KnownRecords
 pub mod Worlds
 pub mod Placed
+pub mod Views

@@ -12,3 +12,4 @@ pub mod Symmetry
 pub mod Moves
 pub mod Clusters
 pub mod SmallSteps
+pub mod Views
