@@ -13,3 +13,4 @@ pub mod KnownRecords
 pub mod Worlds
 pub mod Placed
 pub mod Views
+pub mod Chains
