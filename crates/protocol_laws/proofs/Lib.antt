@@ -14,3 +14,4 @@ pub mod Worlds
 pub mod Placed
 pub mod Views
 pub mod Chains
+pub mod Inputs
