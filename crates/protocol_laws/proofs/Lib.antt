@@ -21,3 +21,5 @@ pub mod ToldLaws
 pub mod Safe
 pub mod Ceilings
 pub mod Spelling
+pub mod LogSteps
+pub mod Intakes

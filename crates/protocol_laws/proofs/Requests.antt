@@ -36,10 +36,10 @@ use Rattle.protocol_laws.proofs.Ids.{same_id_is, same_version_is, same_version_o
 use Rattle.protocol_laws.proofs.OneMore.{finished_one_more, unfinished_is, prepare_stands}
 use Rattle.protocol_laws.proofs.Committed.{IsEventOf, event_of, commits_prepare}
 use Rattle.protocol_laws.proofs.Fits.{asked_touches}
-use Rattle.protocol_laws.proofs.PoolSteps.{fresh_unended}
+use Rattle.protocol_laws.proofs.PoolSteps.{fresh_unended, found_itself}
 use Rattle.protocol_laws.proofs.OrderSteps.{cut_prepared}
 use Rattle.protocol_laws.proofs.NodeSteps.{new_id, laws_entered}
-use Rattle.protocol_laws.proofs.Settling.{found_itself, IsKept, IsSettled, IsCommitOf, settle_goes}
+use Rattle.protocol_laws.proofs.Settling.{IsKept, IsSettled, IsCommitOf, settle_goes}
 
 -- from n a node went on to m by own records
 pub record IsGone (plan : PlanData) (n m : Node) : Type 0 where

@@ -19,27 +19,12 @@ use Rattle.helios_model.specs.Serial.{Follows, IsSerial}
 use Rattle.protocol_laws.specs.Placed.{IsPlaced}
 use Rattle.protocol_laws.specs.Nodes.{NodeLaws}
 use Rattle.protocol_laws.proofs.Placed.{placed_clock}
-use Rattle.protocol_laws.proofs.Lists.{all_from, find_passes, find_finds, contains_from_filter, pairs_cases, pairs_head, pairs_tail}
+use Rattle.protocol_laws.proofs.Lists.{all_from, find_passes, contains_from_filter, pairs_head, pairs_tail}
 use Rattle.protocol_laws.proofs.Ids.{same_id_is, same_id_of, same_id_itself}
 use Rattle.protocol_laws.proofs.OneMore.{finished_one_more, prepare_of_grows, unfinished_is, unfinished_has}
+use Rattle.protocol_laws.proofs.PoolSteps.{found_itself}
 use Rattle.protocol_laws.proofs.NodeSteps.{IsOpen, HasWaited, goes_on_waiting, laws_committed}
 use Rattle.protocol_laws.proofs.SerialSteps.{serial_commit}
-
--- a look-up of a Prepare's id finds this Prepare
-pub found_itself : (log : List Record) (p : Transaction) → AllPairs (λ a b. same_id a.id b.id ≡ false) (prepares log) → Contains (prepares log) p
-    → prepare_of log p.id ≡ Some p
-found_itself log p ids there = by_find (prepare_of log p.id) refl (find_finds (λ q. same_id q.id p.id) (prepares log) p there (same_id_itself p.id))
-  where
-    by_case : (q : Transaction) → same_id q.id p.id ≡ true → (p ≡ q) ⊎ ((same_id p.id q.id ≡ false) ⊎ (same_id q.id p.id ≡ false)) → q ≡ p
-    by_case q same (inl one) = sym one
-    by_case q same (inr (inl apart)) = absurd (both_ways (same_id p.id q.id) apart (same_id_of p.id q.id (sym (same_id_is q.id p.id same))))
-    by_case q same (inr (inr apart)) = absurd (both_ways (same_id q.id p.id) apart same)
-
-    by_find : (o : Option Transaction) → prepare_of log p.id ≡ o → is_some o ≡ true → prepare_of log p.id ≡ Some p
-    by_find None look none = absurd (cc)
-    by_find (Some q) look some =
-        let passes = find_passes (λ x. same_id x.id p.id) (prepares log) q look in
-        look ∙ ap Some (by_case q passes.1 (pairs_cases (λ a b. same_id a.id b.id ≡ false) (prepares log) p q ids there passes.0))
 
 abbrev pub IsCommitOf : ℕ → Record → Type 0
 IsCommitOf site (Prepare p) = ⊥

@@ -13,10 +13,10 @@ use Rattle.protocol_laws.specs.Nodes.{IsWaited}
 use Rattle.protocol_laws.proofs.Settling.{IsKept}
 use Rattle.protocol_laws.proofs.Requests.{IsGone, entries_go}
 
-no_pairs : {X : Type 0} (R : X → X → Type 0) → AllPairs R []
+pub no_pairs : {X : Type 0} (R : X → X → Type 0) → AllPairs R []
 no_pairs R i j d less low = absurd (omega arith)
 
-no_cut : {X : Type 0} (before : List X) (x : X) (after : List X) → [] ≡ before ++ x ∷ after → ⊥
+pub no_cut : {X : Type 0} (before : List X) (x : X) (after : List X) → [] ≡ before ++ x ∷ after → ⊥
 no_cut [] x after e = cc
 no_cut (y ∷ before) x after e = cc
 
