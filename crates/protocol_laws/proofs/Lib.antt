@@ -23,3 +23,6 @@ pub mod Ceilings
 pub mod Spelling
 pub mod LogSteps
 pub mod Intakes
+pub mod Sequences
+pub mod Rising
+pub mod KnownRecords
