@@ -169,7 +169,7 @@ pub record IsTaking (site : ℕ) (row : ℕ → ℕ) (a : Intake) (records : Lis
   pub timed : All EndsLater records
 
 -- a record that is later than all of its origin has a new id
-ahead_new : (log : List Record) (q : Transaction) → All (λ x. origin x ≡ q.id.site → own_time x < q.id.time) log → IsNew log q.id
+pub ahead_new : (log : List Record) (q : Transaction) → All (λ x. origin x ≡ q.id.site → own_time x < q.id.time) log → IsNew log q.id
 ahead_new log q h = all_from (λ p. same_id p.id q.id ≡ false) (prepares log) (λ p there. false_from_ne_true (same_id p.id q.id) (λ same.
     let one : p.id ≡ q.id = same_id_is p.id q.id same in
     let less : p.id.time < q.id.time =

@@ -26,3 +26,7 @@ pub mod Intakes
 pub mod Sequences
 pub mod Rising
 pub mod KnownRecords
+pub mod Cuts
+pub mod Endings
+pub mod ConflictOrder
+pub mod Growth

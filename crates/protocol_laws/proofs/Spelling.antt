@@ -47,7 +47,8 @@ use Rattle.protocol_laws.proofs.Requests.{IsGone, step_answered, kept_entered, f
 use Rattle.protocol_laws.proofs.Starts.{kept_empty}
 use Rattle.protocol_laws.proofs.Unheard.{IsUnheard, empty_unheard, node_unheard}
 use Rattle.protocol_laws.proofs.Ceilings.{entries_below, node_below}
-use Rattle.protocol_laws.proofs.LogLaws.{contains_cut, endings_follow}
+use Rattle.protocol_laws.proofs.Cuts.{contains_cut}
+use Rattle.protocol_laws.proofs.LogLaws.{endings_follow}
 use Rattle.protocol_laws.proofs.ReachedWorlds.{each_reached}
 use Rattle.protocol_laws.proofs.ToldLaws.{each_refusal_is_named, each_told_stays}
 

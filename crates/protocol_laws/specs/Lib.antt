@@ -15,3 +15,4 @@ pub mod Sequences
 pub mod Clusters
 pub mod SmallSteps
 pub mod LogLaws
+pub mod Reach
