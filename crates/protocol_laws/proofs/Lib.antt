@@ -24,3 +24,5 @@ pub mod Spelling
 pub mod Sequences
 pub mod Rising
 pub mod KnownRecords
+pub mod LogEnds
+pub mod Frames
