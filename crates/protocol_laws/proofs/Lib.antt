@@ -30,3 +30,5 @@ pub mod Cuts
 pub mod Endings
 pub mod ConflictOrder
 pub mod Growth
+pub mod LogEnds
+pub mod Frames
