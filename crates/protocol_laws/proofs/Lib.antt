@@ -32,3 +32,6 @@ pub mod ConflictOrder
 pub mod Growth
 pub mod LogEnds
 pub mod Frames
+pub mod CurrentVersions
+pub mod Reaches
+pub mod HistoryLinks

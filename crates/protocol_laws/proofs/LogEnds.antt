@@ -56,7 +56,7 @@ prepared_before site log h id r here e = at_cut (mem_cut r log here)
     at_cut cut = by_find cut.0 cut.1 cut.2 (prepare_of cut.0 id) refl (pending_before site cut.0 id r e (h cut.0 r cut.1 cut.2)).prepared
 
 -- no other record that ends the id stands before one that does
-alone_before : (site : ℕ) (log : List Record) → EachBehind (IsLawful site) log → (id : TxnId) (f g : Record) → ends id f ≡ true → ends id g ≡ true
+pub alone_before : (site : ℕ) (log : List Record) → EachBehind (IsLawful site) log → (id : TxnId) (f g : Record) → ends id f ≡ true → ends id g ≡ true
     → (before after : List Record) → log ≡ before ++ g ∷ after → Mem f before → ⊥
 alone_before site log h id f g first second before after cut there =
     both_ways (finished before id) (pending_before site before id g second (h before g after cut)).unended

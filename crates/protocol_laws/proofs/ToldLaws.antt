@@ -18,6 +18,7 @@ use Rattle.helios_model.specs.World.{World, Told, first_world, node_of, is_own_c
 use Rattle.protocol_laws.specs.Histories.{EachRefusalIsNamed, Stays, StaysTo, ToldStays, EachToldStays}
 use Rattle.protocol_laws.proofs.Lists.{contains_here, contains_later, contains_filter, contains_from_filter}
 use Rattle.protocol_laws.proofs.Committed.{event_of, commits_grown}
+use Rattle.protocol_laws.proofs.CurrentVersions.{current_named}
 use Rattle.protocol_laws.proofs.Requests.{Says, SaysTo}
 use Rattle.protocol_laws.proofs.Replies.{IsToldIn}
 use Rattle.protocol_laws.proofs.ReachedWorlds.{IsReached, each_reached}
@@ -30,24 +31,6 @@ in_history plan w k e h low there =
     let own : is_own_commit k e ≡ true = All-contains (λ x. is_own_commit k x ≡ true) (commits (node_of plan w k).log) e (commits_own plan w k low) there in
     let kept : Contains (filter (is_own_commit k) (commits (node_of plan w k).log)) e = contains_filter (is_own_commit k) (commits (node_of plan w k).log) e there own in
     (contains_from_filter (is_own_commit k) w.history e (subst (λ es. Contains es e) (sym (h.history.own k low)) kept)).0
-
--- the current version of a key is that of an event whose Commit stands in the log
-current_named : (history : List CommitEvent) (records : List Record) (key : List ℕ) → ((e : CommitEvent) → Contains (commits records) e → Contains history e)
-    → IsVersionIn history records key (current records key)
-current_named history records key known = folded (commits records) Initial (λ e there. there) tt
-  where
-    after : (version : Version) (e : CommitEvent) → Contains (commits records) e → IsVersionIn history records key version
-        → IsVersionIn history records key (version_after key version e)
-    after version e there h =
-        cond_both (writes_key e.prepare key) (Of e.prepare.id) version (IsVersionIn history records key)
-        (λ writes. record { event = e; stands = known e there; named = refl; writes = writes; logged = (event_of records e there).committed })
-        (λ unwritten. h)
-
-    folded : (es : List CommitEvent) (version : Version) → ((e : CommitEvent) → Contains es e → Contains (commits records) e)
-        → IsVersionIn history records key version → IsVersionIn history records key (fold (version_after key) version es)
-    folded [] version each h = h
-    folded (e ∷ es) version each h =
-        folded es (version_after key version e) (λ x there. each x (contains_later e es x there)) (after version e (each e (contains_here e es)) h)
 
 named_says : (site : ℕ) (history : List CommitEvent) (before after : List Record) (ask : Asking) (reply : Reply)
     → ((e : CommitEvent) → Contains (commits before) e → Contains history e) → Says site before after ask reply → IsNamed history before ask reply

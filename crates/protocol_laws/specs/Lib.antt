@@ -16,3 +16,4 @@ pub mod Clusters
 pub mod SmallSteps
 pub mod LogLaws
 pub mod Reach
+pub mod ClusterHistories
