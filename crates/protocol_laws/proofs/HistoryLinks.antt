@@ -28,7 +28,7 @@ use Rattle.protocol_laws.proofs.OneMore.{prepare_stands}
 use Rattle.protocol_laws.proofs.Committed.{commits_grown, IsEventOf, event_of}
 use Rattle.protocol_laws.proofs.CurrentVersions.{current_named}
 use Rattle.protocol_laws.proofs.Cuts.{contains_cut}
-use Rattle.protocol_laws.proofs.Endings.{one_in_log}
+use Rattle.protocol_laws.proofs.Endings.{prepare_found, one_in_log}
 use Rattle.protocol_laws.proofs.LogEnds.{same_end}
 use Rattle.protocol_laws.proofs.Growth.{Goes}
 
@@ -96,22 +96,12 @@ module _ (plan : PlanData) (w : Cluster) (h : Honest w) (laws : (k : ℕ) → Lo
       event_of (w.log e.prepare.id.site) e (contains_from_filter (is_own_commit e.prepare.id.site) (commits (w.log e.prepare.id.site)) e moved).0
 
   -- a Prepare of an id that has one at home is that one
-  same_prepare : (i j : ℕ) (p q : Transaction) → Contains (prepares (w.log i)) p → Contains (prepares (w.log j)) q → p.id ≡ q.id → p ≡ q
+  pub same_prepare : (i j : ℕ) (p q : Transaction) → Contains (prepares (w.log i)) p → Contains (prepares (w.log j)) q → p.id ≡ q.id → p ≡ q
   same_prepare i j p q at_p at_q same =
       let one : Prepare p ≡ Prepare q =
       same_record w h i j (Prepare p) (Prepare q) (mem_from_contains (w.log i) (Prepare p) (prepare_stands (w.log i) p at_p))
       (mem_from_contains (w.log j) (Prepare q) (prepare_stands (w.log j) q at_q)) (ap (λ x. x.site) same) (ap (λ x. x.time) same) in
       cc
-
-  found_in : (i : ℕ) (id : TxnId) → is_some (prepare_of (w.log i) id) ≡ true → (p : Transaction) × (prepare_of (w.log i) id ≡ Some p) × Contains (prepares (w.log i)) p × (p.id ≡ id)
-  found_in i id some = by_find (prepare_of (w.log i) id) refl some
-    where
-      by_find : (o : Option Transaction) → prepare_of (w.log i) id ≡ o → is_some o ≡ true
-          → (p : Transaction) × (prepare_of (w.log i) id ≡ Some p) × Contains (prepares (w.log i)) p × (p.id ≡ id)
-      by_find None look none = absurd (cc)
-      by_find (Some p) look found =
-          let passes = find_passes (λ q. same_id q.id id) (prepares (w.log i)) p look in
-          (p, look, passes.0, same_id_is p.id id passes.1)
 
   -- a Commit in any log is that of an event of the history, and its Prepare is in that log too
   pub event_of_commit : (i : ℕ) (id : TxnId) (time : ℕ) → Contains (w.log i) (Commit id time) → IsEventIn w i id time
@@ -119,9 +109,9 @@ module _ (plan : PlanData) (w : Cluster) (h : Honest w) (laws : (k : ℕ) → Lo
       let at_home : Contains (w.log id.site) (Commit id time) =
       contains_from_mem (w.log id.site) (Commit id time) (home w h i (Commit id time) (mem_from_contains (w.log i) (Commit id time) there)).there in
       let backed : is_some (prepare_of (w.log id.site) id) ≡ true = All-contains (IsBacked (w.log id.site)) (w.log id.site) (Commit id time) (laws id.site).pool.backed at_home in
-      let found = found_in id.site id backed in
+      let found = prepare_found (w.log id.site) id backed in
       let near : is_some (prepare_of (w.log i) id) ≡ true = All-contains (IsBacked (w.log i)) (w.log i) (Commit id time) (laws i).pool.backed there in
-      let local = found_in i id near in
+      let local = prepare_found (w.log i) id near in
       let in_log : Contains (commits (w.log id.site)) (event_at time found.0) =
       contains_filter_map (commit_in (w.log id.site)) (w.log id.site) (Commit id time) (event_at time found.0) at_home (ap (option_map (event_at time)) found.1) in
       let kept : Contains (filter (is_own_commit id.site) (commits (w.log id.site))) (event_at time found.0) =
@@ -144,6 +134,16 @@ module _ (plan : PlanData) (w : Cluster) (h : Honest w) (laws : (k : ℕ) → Lo
       let time : in_history.event.time ≡ e.time = in_history.timed in
       let same : in_history.event ≡ e = λ k. record { prepare = prepare k; time = time k } in
       subst (Contains w.history) same in_history.stands
+
+  -- an event whose Commit stands in a log is one of the log's commits
+  pub event_here : (i : ℕ) (e : CommitEvent) → Contains w.history e → Contains (w.log i) (Commit e.prepare.id e.time) → Contains (commits (w.log i)) e
+  event_here i e in_history there =
+      let backed : is_some (prepare_of (w.log i) e.prepare.id) ≡ true =
+      All-contains (IsBacked (w.log i)) (w.log i) (Commit e.prepare.id e.time) (laws i).pool.backed there in
+      let found = prepare_found (w.log i) e.prepare.id backed in
+      let one : found.0 ≡ e.prepare = same_prepare i e.prepare.id.site found.0 e.prepare found.2 (event_home e in_history).prepared found.3 in
+      contains_filter_map (commit_in (w.log i)) (w.log i) (Commit e.prepare.id e.time) e there
+      (ap (option_map (event_at e.time)) (found.1 ∙ ap Some one))
 
   -- what is aborted in any log is in no event
   pub aborted_never : (i : ℕ) (id : TxnId) (time : ℕ) (cause : TxnId) (e : CommitEvent) → Contains (w.log i) (Abort id time cause) → Contains w.history e

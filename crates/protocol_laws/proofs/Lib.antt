@@ -35,3 +35,4 @@ pub mod Frames
 pub mod CurrentVersions
 pub mod Reaches
 pub mod HistoryLinks
+pub mod Exclusion
