@@ -26,3 +26,4 @@ pub mod Rising
 pub mod KnownRecords
 pub mod LogEnds
 pub mod Frames
+pub mod Releases
