@@ -27,3 +27,4 @@ pub mod KnownRecords
 pub mod LogEnds
 pub mod Frames
 pub mod Releases
+pub mod Takings
