@@ -28,3 +28,4 @@ pub mod LogEnds
 pub mod Frames
 pub mod Releases
 pub mod Takings
+pub mod HonestSteps

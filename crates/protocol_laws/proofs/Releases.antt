@@ -1,7 +1,7 @@
 -- What a site has for another one is an honest message, whatever the greatest number of its records.
-use Rattle.std.proofs.Common.{◌≡◌, ◌∙◌, ap, refl, sym, subst, ℕ, ◌-◌, ◌<◌, ◌≤◌, true, false, nat_eq, nat_lt, nat_le, ◌⊎◌, inl, inr, Option, Some, None, List, [], ◌∷◌, ◌++◌, take, drop, find, eqb-true, arith}
+use Rattle.std.proofs.Common.{◌≡◌, ◌∙◌, ap, refl, sym, subst, ℕ, ◌-◌, ◌<◌, ◌≤◌, true, nat_eq, nat_lt, nat_le, ◌⊎◌, inl, inr, Option, Some, None, List, ◌∷◌, ◌++◌, take, drop, find, eqb-true, arith}
 use Rattle.std.proofs.lemmas.List.{take-append-drop, append-nil}
-use Rattle.std.proofs.lemmas.Bool.{cases_lt, lt-ltb, ltb-true}
+use Rattle.std.proofs.lemmas.Bool.{cases_lt, lt-ltb}
 use Rattle.helios_model.specs.declared.records.Record.{Record}
 use Rattle.helios_model.specs.Limits.{most_records}
 use Rattle.helios_model.specs.Log.{origin, own_time}
@@ -9,9 +9,8 @@ use Rattle.helios_model.specs.Exchange.{due, is_due, cover_at, covered}
 use Rattle.protocol_laws.specs.Sequences.{Mem, Before, Rising, of, upto, over}
 use Rattle.protocol_laws.specs.Clusters.{Letter, Cluster, HonestLetter, Honest}
 use Rattle.protocol_laws.specs.SmallSteps.{IsLetter}
-use Rattle.protocol_laws.proofs.Sequences.{mem_left, mem_right, mem_filter, mem_of_filter, before_first, before_second, before_cases, before_filter, filter_swap, find_none_filter, find_some_filter}
-use Rattle.protocol_laws.proofs.Rising.{mem_of, of_mem, upto_mem, over_mem, of_append, rising_filter, upto-upto, upto-over, rising_cut, records_order}
-use Rattle.protocol_laws.proofs.KnownRecords.{home, log_rises}
+use Rattle.protocol_laws.proofs.Sequences.{mem_left, mem_right, mem_of_filter, before_cases, before_filter, filter_swap, find_none_filter, find_some_filter}
+use Rattle.protocol_laws.proofs.Rising.{upto_mem, over_mem, of_append, rising_filter, upto-upto, upto-over, rising_cut, records_order}
 
 module _ (w : Cluster) (i j limit : ℕ) (h : Honest w) where
   abbrev first : List Record

@@ -1,7 +1,7 @@
 -- A site takes an honest message's records one by one: what its log and clock become, and that no Commit or Abort lacks its Prepare.
-use Rattle.std.proofs.Common.{◌≡◌, ◌≢◌, ◌∙◌, ap, refl, sym, subst, ℕ, ◌+◌, ◌<◌, ◌≤◌, true, false, Bool, ◌⊎◌, inl, inr, List, [], ◌∷◌, ◌++◌, nat_eq, nat_le, nat_lt, fold, map, filter, Contains, append_assoc, eqb-true, arith}
+use Rattle.std.proofs.Common.{◌≡◌, ◌≢◌, ◌∙◌, ap, refl, sym, subst, ℕ, ◌+◌, ◌<◌, ◌≤◌, true, false, ◌⊎◌, inl, inr, List, [], ◌∷◌, ◌++◌, nat_eq, nat_le, nat_lt, fold, filter, Contains, append_assoc, eqb-true, arith}
 use Rattle.std.proofs.lemmas.List.{append-nil}
-use Rattle.std.proofs.lemmas.Bool.{cases_Bool, cases_eq, or_cases, or_parts, both_ways, eqb-false, leb-true, leb-false, lt-ltb, le-ltb, cond-true, cond-false, false_from_ne_true}
+use Rattle.std.proofs.lemmas.Bool.{cases_Bool, cases_eq, or_cases, or_parts, eqb-false, leb-true, leb-false, lt-ltb, le-ltb, cond-true, cond-false, false_from_ne_true}
 use Rattle.helios_model.specs.declared.ids.TxnId.{TxnId}
 use Rattle.helios_model.specs.declared.records.Record.{Record}
 use Rattle.helios_model.specs.declared.records.Record.TheVariants.{Prepare, Commit, Abort}
@@ -18,7 +18,7 @@ use Rattle.protocol_laws.proofs.Lists.{any_from, some_of}
 use Rattle.protocol_laws.proofs.Ids.{same_id_of, same_id_itself}
 use Rattle.protocol_laws.proofs.OneMore.{prepare_listed, unfinished_has}
 use Rattle.protocol_laws.proofs.Sequences.{mem_left, mem_right, mem_cases, mem_from_contains, contains_from_mem, mem_of_cut, mem_of_map, mem_of_filter, before_left, before_first, before_second, before_across, before_cases, filter_yes, filter_no}
-use Rattle.protocol_laws.proofs.Rising.{mem_of, of_mem, over_mem, of_append, over_append, of_more, of_more_other, rising_join, last_own-append, records_order}
+use Rattle.protocol_laws.proofs.Rising.{mem_of, of_mem, over_mem, over_append, of_more, of_more_other, rising_join, last_own-append, records_order}
 use Rattle.protocol_laws.proofs.KnownRecords.{home, known_here, letter_home, letter_rises}
 use Rattle.protocol_laws.proofs.LogEnds.{ended_origin, prepared_before, IsPreparedBefore, one_end}
 

@@ -14,3 +14,4 @@ pub mod Moves
 pub mod Sequences
 pub mod Clusters
 pub mod SmallSteps
+pub mod Knowledge
