@@ -36,3 +36,6 @@ pub mod CurrentVersions
 pub mod Reaches
 pub mod HistoryLinks
 pub mod Exclusion
+pub mod Releases
+pub mod Takings
+pub mod HonestSteps

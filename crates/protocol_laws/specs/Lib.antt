@@ -17,3 +17,4 @@ pub mod SmallSteps
 pub mod LogLaws
 pub mod Reach
 pub mod ClusterHistories
+pub mod Knowledge

@@ -4,5 +4,11 @@
 mod laws;
 
 pub use laws::{
-    asked_is_transaction, batch_moves_one_node, conflict_is_symmetric, each_commit_waited, each_conflict_is_ordered, each_earlier_ends_first, each_ending_follows, each_entry_may_be_asked, each_history_is_commits, each_id_is_given_once, each_log_is_own, each_node_is_placed, each_node_stays_below, each_record_is_spellable, each_refusal_is_named, each_reply_is_spellable, each_table_is_small, each_time_rises, each_told_stays, each_version_was_current, each_world_grows, each_world_is_safe, history_is_serial, serial_at_one_site,
+    asked_is_transaction, batch_moves_one_node, conflict_is_symmetric, each_commit_waited,
+    each_conflict_is_ordered, each_earlier_ends_first, each_ending_follows,
+    each_entry_may_be_asked, each_history_is_commits, each_id_is_given_once, each_log_is_own,
+    each_node_is_placed, each_node_stays_below, each_record_is_spellable, each_refusal_is_named,
+    each_reply_is_spellable, each_table_is_small, each_time_rises, each_told_stays,
+    each_version_was_current, each_world_grows, each_world_is_safe, history_is_serial,
+    serial_at_one_site,
 };
