@@ -32,7 +32,7 @@ pub asked_touches : (log : List Record) (id : TxnId) (ask : Asking) → touched_
 asked_touches log id ask = ap (λ keys. record { read = map (λ r. r.key) ask.reads; written = keys }) (map_twice (λ (w : WriteItem). w.key) (write_at log) ask.puts)
 
 -- one that writes a key which the other reads or writes conflicts with it
-overwrites_touched : (a b : Touched) (key : List ℕ)
+pub overwrites_touched : (a b : Touched) (key : List ℕ)
     → ((other : List ℕ) → same_text key other ≡ true → (contains_text a.read other || contains_text a.written other) ≡ true)
     → contains_text b.written key ≡ true → keys_conflict a b ≡ true
 overwrites_touched a b key touched writes =
@@ -41,14 +41,14 @@ overwrites_touched a b key touched writes =
     or_right (keys_overwrite a b) (keys_overwrite b a)
     (any_from (λ other. contains_text a.read other || contains_text a.written other) b.written found.0 found.1 (touched found.0 same))
 
-read_unwritten : (p q : Transaction) (r : ReadItem) → conflict p q ≡ false → Contains p.reads r → writes_key q r.key ≡ false
+pub read_unwritten : (p q : Transaction) (r : ReadItem) → conflict p q ≡ false → Contains p.reads r → writes_key q r.key ≡ false
 read_unwritten p q r apart there =
     false_from_ne_true (writes_key q r.key) (λ writes. both_ways (conflict p q) apart
     (overwrites_touched (touched_by p) (touched_by q) r.key
     (λ other same. or_left (contains_text (touched_by p).read other) (contains_text (touched_by p).written other)
     (any_from (λ key. same_text key other) (touched_by p).read r.key (contains_map (λ (x : ReadItem). x.key) p.reads r there) same)) writes))
 
-write_unwritten : (p q : Transaction) (w : WriteItem) → conflict p q ≡ false → Contains p.writes w → writes_key q w.key ≡ false
+pub write_unwritten : (p q : Transaction) (w : WriteItem) → conflict p q ≡ false → Contains p.writes w → writes_key q w.key ≡ false
 write_unwritten p q w apart there =
     false_from_ne_true (writes_key q w.key) (λ writes. both_ways (conflict p q) apart
     (overwrites_touched (touched_by p) (touched_by q) w.key

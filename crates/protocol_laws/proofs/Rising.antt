@@ -206,3 +206,11 @@ of_none k rs h = filter_none (λ x. nat_eq (origin x) k) rs (λ x there. ne_eqb 
 
 pub of_all : (k : ℕ) (rs : List Record) → ((r : Record) → Mem r rs → origin r ≡ k) → of k rs ≡ rs
 of_all k rs h = filter_all (λ x. nat_eq (origin x) k) rs (λ x there. eq-eqb (origin x) k (h x there))
+
+-- one more record of the origin, and one of another
+pub of_more : (k : ℕ) (rs : List Record) (r : Record) → origin r ≡ k → of k (rs ++ r ∷ []) ≡ of k rs ++ r ∷ []
+of_more k rs r its = of_append k rs (r ∷ []) ∙ ap (λ l. of k rs ++ l) (filter_yes (λ x. nat_eq (origin x) k) r [] (eq-eqb (origin r) k its))
+
+pub of_more_other : (k : ℕ) (rs : List Record) (r : Record) → (origin r ≡ k → ⊥) → of k (rs ++ r ∷ []) ≡ of k rs
+of_more_other k rs r other =
+    of_append k rs (r ∷ []) ∙ ap (λ l. of k rs ++ l) (filter_no (λ x. nat_eq (origin x) k) r [] (ne_eqb (origin r) k other)) ∙ append-nil (of k rs)

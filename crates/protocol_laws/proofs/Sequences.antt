@@ -1,4 +1,4 @@
-use Rattle.std.proofs.Common.{◌≡◌, ◌∙◌, ap, refl, sym, subst, Bool, true, false, ◌&&◌, ◌⊎◌, inl, inr, Some, None, List, [], ◌∷◌, ◌++◌, filter, find, Contains}
+use Rattle.std.proofs.Common.{◌≡◌, ◌∙◌, ap, refl, sym, subst, Bool, true, false, ◌&&◌, ◌⊎◌, inl, inr, Some, None, List, [], ◌∷◌, ◌++◌, map, filter, find, Contains}
 use Rattle.std.proofs.lemmas.List.Elements.{filter_agree}
 use Rattle.std.proofs.lemmas.Bool.{cases_Bool, cond_both, cond-true, cond-false}
 use Rattle.helios_model.specs.Sequences.{Mem, Before}
@@ -181,3 +181,8 @@ find_some_filter {A = A} p (x ∷ xs) a e = by_test (cases_Bool (p x)) (find_som
         let more : find p xs ≡ Some a = rw left at e in
         let found = later more in
         (found.0, filter_no p x xs left ∙ found.1)
+
+pub mem_of_map : {A B : Type 0} (f : A → B) (b : B) (xs : List A) → Mem b (map f xs) → (a : A) × Mem a xs × (f a ≡ b)
+mem_of_map f b [] h = absurd h
+mem_of_map f b (x ∷ xs) (inl same) = (x, inl refl, same)
+mem_of_map f b (x ∷ xs) (inr later) = let found = mem_of_map f b xs later in (found.0, inr found.1, found.2)

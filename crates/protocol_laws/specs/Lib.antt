@@ -13,3 +13,7 @@ pub mod Moves
 pub mod Clusters
 pub mod SmallSteps
 pub mod Views
+pub mod LogLaws
+pub mod Reach
+pub mod ClusterHistories
+pub mod Knowledge
