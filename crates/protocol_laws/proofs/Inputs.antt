@@ -32,7 +32,8 @@ use Rattle.helios_model.specs.Messages.{advanced, arrived}
 use Rattle.helios_model.specs.Spellable.{IsMessageOf, IsSpellableRecord}
 use Rattle.helios_model.specs.Step.{MayBeAsked, after_entries, after_entry, by_clock, is_journaled, step}
 use Rattle.helios_model.specs.World.{message_in, messages_in, replies}
-use Rattle.protocol_laws.specs.Pool.{PoolLaws}
+use Rattle.protocol_laws.specs.LogLaws.{LogLaws}
+use Rattle.protocol_laws.specs.ClusterHistories.{IsHistory}
 use Rattle.protocol_laws.specs.Placed.{IsPlaced}
 use Rattle.protocol_laws.specs.Clusters.{Cluster, Honest, Letter}
 use Rattle.protocol_laws.specs.SmallSteps.{SmallStep, IsReached}
@@ -160,7 +161,7 @@ abbrev letters_in : PlanData → Reply → List Letter
 letters_in plan reply = letters_of plan (cons_option (message_in reply) [])
 
 -- a message that is taken in was sent
-abbrev HasCome : PlanData → List Letter → Input → Type 0
+abbrev pub HasCome : PlanData → List Letter → Input → Type 0
 HasCome plan letters (Get key) = Unit {0}
 HasCome plan letters (Status id) = Unit {0}
 HasCome plan letters (Request ask) = Unit {0}
@@ -177,7 +178,8 @@ still_come plan letters more (Push m) h = mem_left (letter_of plan m) letters mo
 -- what is known of each cluster that small steps reach
 pub record AreKept (plan : PlanData) : Type 0 where
   pub honest : (u : Cluster) → IsReached plan u → Honest u
-  pub pool : (u : Cluster) → IsReached plan u → (s : ℕ) → s < count_of plan → PoolLaws s (u.log s)
+  pub laws : (u : Cluster) → IsReached plan u → (s : ℕ) → LogLaws s (u.log s)
+  pub history : (u : Cluster) → IsReached plan u → IsHistory plan u
 
 module _ (plan : PlanData) (kept : AreKept plan) (w : Cluster) where
   commits_shown : (n : Node) (ps : List Transaction) (letters : List Letter) → IsPlaced plan n.site n → n.site < count_of plan
@@ -197,7 +199,7 @@ module _ (plan : PlanData) (kept : AreKept plan) (w : Cluster) where
       → IsShown plan w (settle plan n) letters
   settle_shown n letters placed low shown =
       let ids : AllPairs (λ a b. same_id a.id b.id ≡ false) (prepares n.log) =
-      subst (λ l. AllPairs (λ a b. same_id a.id b.id ≡ false) (prepares l)) shown.same_log (kept.pool shown.cluster shown.reached n.site low).ids in
+      subst (λ l. AllPairs (λ a b. same_id a.id b.id ≡ false) (prepares l)) shown.same_log (kept.laws shown.cluster shown.reached n.site).pool.ids in
       commits_shown n (ready_ones plan n) letters placed low
       (AllPairs-filter (λ a b. same_id a.id b.id ≡ false) (λ p. is_reached plan n p.id.time) (own_open n)
       (AllPairs-filter (λ a b. same_id a.id b.id ≡ false) (is_own n.site) (unfinished n.log)

@@ -30,3 +30,4 @@ pub mod Exclusion
 pub mod Releases
 pub mod Takings
 pub mod HonestSteps
+pub mod Runs
