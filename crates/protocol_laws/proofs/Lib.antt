@@ -39,3 +39,4 @@ pub mod Exclusion
 pub mod Releases
 pub mod Takings
 pub mod HonestSteps
+pub mod OrderedLists
