@@ -40,3 +40,5 @@ pub mod Releases
 pub mod Takings
 pub mod HonestSteps
 pub mod OrderedLists
+pub mod NamedAborts
+pub mod SerialClusters

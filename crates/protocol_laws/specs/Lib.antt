@@ -17,4 +17,5 @@ pub mod SmallSteps
 pub mod LogLaws
 pub mod Reach
 pub mod ClusterHistories
+pub mod ClusterAborts
 pub mod Knowledge
