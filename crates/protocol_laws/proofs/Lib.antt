@@ -42,3 +42,4 @@ pub mod HonestSteps
 pub mod OrderedLists
 pub mod NamedAborts
 pub mod SerialClusters
+pub mod ReachedClusters

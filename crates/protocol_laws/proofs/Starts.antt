@@ -10,15 +10,9 @@ use Rattle.helios_model.specs.Serial.{Follows}
 use Rattle.helios_model.specs.World.{World, journal_of, node_of}
 use Rattle.protocol_laws.specs.Pool.{IsBacked, IsApart}
 use Rattle.protocol_laws.specs.Nodes.{IsWaited}
+use Rattle.protocol_laws.proofs.Cuts.{no_pairs, no_cut}
 use Rattle.protocol_laws.proofs.Settling.{IsKept}
 use Rattle.protocol_laws.proofs.Requests.{IsGone, entries_go}
-
-pub no_pairs : {X : Type 0} (R : X → X → Type 0) → AllPairs R []
-no_pairs R i j d less low = absurd (omega arith)
-
-pub no_cut : {X : Type 0} (before : List X) (x : X) (after : List X) → [] ≡ before ++ x ∷ after → ⊥
-no_cut [] x after e = cc
-no_cut (y ∷ before) x after e = cc
 
 pub kept_empty : (plan : PlanData) (k : ℕ) → k < count_of plan → IsKept plan (empty_node plan k)
 kept_empty plan k low = record {

@@ -18,4 +18,5 @@ pub mod LogLaws
 pub mod Reach
 pub mod ClusterHistories
 pub mod ClusterAborts
+pub mod ReachedClusters
 pub mod Knowledge
