@@ -51,3 +51,10 @@ pairs_from_cuts {X = X} R xs h i j d less low =
 
     there : Contains (take j xs) (get_or xs i d)
     there = (i, short, get_or-take j xs i (get_or xs i d) less ∙ get_or_default xs i (get_or xs i d) d (omega arith))
+
+pub no_pairs : {X : Type 0} (R : X → X → Type 0) → AllPairs R []
+no_pairs R i j d less low = absurd (omega arith)
+
+pub no_cut : {X : Type 0} (before : List X) (x : X) (after : List X) → [] ≡ before ++ x ∷ after → ⊥
+no_cut [] x after e = cc
+no_cut (y ∷ before) x after e = cc

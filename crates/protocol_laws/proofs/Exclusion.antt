@@ -20,7 +20,7 @@ use Rattle.protocol_laws.proofs.Lists.{any_from, some_of, contains_cases, contai
 use Rattle.protocol_laws.proofs.Ids.{same_id_itself}
 use Rattle.protocol_laws.proofs.Sequences.{mem_from_contains, contains_from_mem}
 use Rattle.protocol_laws.proofs.KnownRecords.{home, known_here}
-use Rattle.protocol_laws.proofs.OneMore.{prepare_stands}
+use Rattle.protocol_laws.proofs.OneMore.{prepare_stands, prepare_listed}
 use Rattle.protocol_laws.proofs.Committed.{IsEventOf}
 use Rattle.protocol_laws.proofs.Fits.{conflict_back}
 use Rattle.protocol_laws.proofs.Cuts.{contains_cut}
@@ -29,7 +29,7 @@ use Rattle.protocol_laws.proofs.ConflictOrder.{own_later_ends}
 use Rattle.protocol_laws.proofs.LogEnds.{IsPreparedBefore, ended_origin, prepared_before, same_end}
 use Rattle.protocol_laws.proofs.Growth.{IsPrepared, finish_prepared}
 use Rattle.protocol_laws.proofs.Reaches.{waited_within}
-use Rattle.protocol_laws.proofs.HistoryLinks.{stands_prepared, event_home, unended_never}
+use Rattle.protocol_laws.proofs.HistoryLinks.{event_home, unended_never}
 
 -- of two times of different sites one is within the offset of the other: this is what an accepted plan is for
 pub one_within : (plan : PlanData) (i j a b : ℕ) → IsAccepted plan → i < count_of plan → j < count_of plan → i ≢ j
@@ -77,12 +77,12 @@ module _ (plan : PlanData) (w v : Cluster) (s : ℕ) (p : Transaction) (e : Comm
       by_behind (inl same) = let one : p ≡ e.prepare = cc in differs (ap (λ x. x.id) (sym one))
       by_behind (inr behind) = both_ways (conflict e.prepare p)
           (conflict_back e.prepare p ∙ All-contains (λ q. conflict p q ≡ false) (prepares after) e.prepare ((laws s).order.clear p c.here here.unended before after cut)
-          (stands_prepared after e.prepare behind)) conflicts
+          (prepare_listed after e.prepare behind)) conflicts
 
       by_place : Contains before (Prepare e.prepare) ⊎ Contains (Prepare p ∷ after) (Prepare e.prepare) → Contains before (Commit e.prepare.id e.time)
       by_place (inl early) =
           ended (some_of (ends e.prepare.id) before
-          (own_later_ends s (w.log s) e.prepare p (laws s).order c.here before after cut (stands_prepared before e.prepare early) conflicts))
+          (own_later_ends s (w.log s) e.prepare p (laws s).order c.here before after cut (prepare_listed before e.prepare early) conflicts))
       by_place (inr late) = absurd (by_behind (contains_cases (Prepare p) after (Prepare e.prepare) late))
 
   -- the other site cannot have known the Prepare of p when it committed: it would have ended p
@@ -103,7 +103,7 @@ module _ (plan : PlanData) (w v : Cluster) (s : ℕ) (p : Transaction) (e : Comm
           → (Prepare e.prepare ≡ Prepare p) ⊎ Contains back (Prepare p) → ⊥
       by_behind front back clear (inl same) = let one : e.prepare ≡ p = cc in differs (ap (λ x. x.id) one)
       by_behind front back clear (inr behind) = both_ways (conflict e.prepare p)
-          (All-contains (λ q. conflict e.prepare q ≡ false) (prepares back) p (clear front back refl) (stands_prepared back p behind)) conflicts
+          (All-contains (λ q. conflict e.prepare q ≡ false) (prepares back) p (clear front back refl) (prepare_listed back p behind)) conflicts
 
       by_place : (front back rest : List Record) → w.log other_site ≡ (front ++ Prepare e.prepare ∷ back) ++ rest
           → IsClearBehind (front ++ Prepare e.prepare ∷ back) e.prepare
@@ -111,7 +111,7 @@ module _ (plan : PlanData) (w v : Cluster) (s : ℕ) (p : Transaction) (e : Comm
       by_place front back rest cut clear (inl early) =
           let whole : w.log other_site ≡ front ++ Prepare e.prepare ∷ (back ++ rest) = cut ∙ append_assoc front (Prepare e.prepare ∷ back) rest in
           ended_there front (Prepare e.prepare ∷ (back ++ rest)) whole (some_of (ends p.id) front
-          (own_later_ends other_site (w.log other_site) p e.prepare (laws other_site).order refl front (back ++ rest) whole (stands_prepared front p early)
+          (own_later_ends other_site (w.log other_site) p e.prepare (laws other_site).order refl front (back ++ rest) whole (prepare_listed front p early)
           (conflict_back p e.prepare ∙ conflicts)))
       by_place front back rest cut clear (inr late) = by_behind front back clear (contains_cases (Prepare e.prepare) back (Prepare p) late)
 
@@ -129,7 +129,7 @@ module _ (plan : PlanData) (w v : Cluster) (s : ℕ) (p : Transaction) (e : Comm
           let in_log : Contains (w.log other_site) (Prepare found.0) =
           subst (λ l. Contains l (Prepare found.0)) (sym cut) (Contains-append_left before (Commit e.prepare.id e.time ∷ after) (Prepare found.0) early) in
           let one : found.0 ≡ e.prepare =
-          one_in_log (w.log other_site) found.0 e.prepare (laws other_site).pool.ids (stands_prepared (w.log other_site) found.0 in_log) at_home.prepared found.3 in
+          one_in_log (w.log other_site) found.0 e.prepare (laws other_site).pool.ids (prepare_listed (w.log other_site) found.0 in_log) at_home.prepared found.3 in
           subst (λ q. Contains before (Prepare q)) one early
 
       at_commit : (before : List Record) × (after : List Record) × (w.log other_site ≡ before ++ Commit e.prepare.id e.time ∷ after) → ⊥

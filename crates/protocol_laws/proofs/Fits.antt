@@ -1,6 +1,7 @@
 use Rattle.std.proofs.Common.{◌≡◌, ◌∙◌, ap, refl, sym, map, ℕ, Bool, true, false, ◌||◌, List, get_or, Contains}
 use Rattle.std.proofs.lemmas.List.Elements.{Contains-get_or}
-use Rattle.std.proofs.lemmas.Bool.{or_left, or_right, both_ways, false_from_ne_true}
+use Rattle.std.proofs.lemmas.Bool.{or_left, or_right, both_ways, false_from_ne_true, true_from_ne_false}
+use Rattle.std.proofs.lemmas.Cmp.{nat_list_eq_equiv}
 use Rattle.helios_model.specs.declared.ids.Version.{Version}
 use Rattle.helios_model.specs.declared.transactions.ReadItem.{ReadItem}
 use Rattle.helios_model.specs.declared.transactions.WriteItem.{WriteItem}
@@ -75,3 +76,20 @@ follows_same versions others p same h = record {
   reads = λ k d low. h.reads k d low ∙ sym (same (get_or p.reads k d).key);
   writes = λ k d low. h.writes k d low ∙ sym (same (get_or p.writes k d).key);
 }
+
+-- a transaction that writes a key conflicts with each one that reads or writes the key
+pub conflict_of_read : (p q : Transaction) (r : ReadItem) → Contains p.reads r → writes_key q r.key ≡ true → conflict q p ≡ true
+conflict_of_read p q r there writes =
+    conflict_back q p ∙ true_from_ne_false (conflict p q) (λ apart. both_ways (writes_key q r.key) (read_unwritten p q r apart there) writes)
+
+pub conflict_of_write : (p q : Transaction) (w : WriteItem) → Contains p.writes w → writes_key q w.key ≡ true → conflict q p ≡ true
+conflict_of_write p q w there writes =
+    conflict_back q p ∙ true_from_ne_false (conflict p q) (λ apart. both_ways (writes_key q w.key) (write_unwritten p q w apart there) writes)
+
+pub conflict_of_writers : (p q : Transaction) (key : List ℕ) → writes_key p key ≡ true → writes_key q key ≡ true → conflict p q ≡ true
+conflict_of_writers p q key first second =
+    let found = some_of (λ (other : List ℕ). same_text other key) (touched_by p).written first in
+    overwrites_touched (touched_by p) (touched_by q) key
+    (λ other same. or_right (contains_text (touched_by p).read other) (contains_text (touched_by p).written other)
+    (any_from (λ (k : List ℕ). same_text k other) (touched_by p).written found.0 found.1
+    (sym (nat_list_eq_equiv.congr key found.0 other (same_key_back key found.0 ∙ found.2)) ∙ same))) second

@@ -24,17 +24,13 @@ use Rattle.protocol_laws.proofs.Lists.{any_from, find_passes, contains_here, con
 use Rattle.protocol_laws.proofs.Ids.{same_id_is, same_id_of, same_id_itself}
 use Rattle.protocol_laws.proofs.Sequences.{mem_from_contains, contains_from_mem, filter_none}
 use Rattle.protocol_laws.proofs.KnownRecords.{home, letter_home, same_record}
-use Rattle.protocol_laws.proofs.OneMore.{prepare_stands}
+use Rattle.protocol_laws.proofs.OneMore.{prepare_stands, prepare_listed}
 use Rattle.protocol_laws.proofs.Committed.{commits_grown, IsEventOf, event_of}
 use Rattle.protocol_laws.proofs.CurrentVersions.{current_named}
 use Rattle.protocol_laws.proofs.Cuts.{contains_cut}
 use Rattle.protocol_laws.proofs.Endings.{prepare_found, one_in_log}
 use Rattle.protocol_laws.proofs.LogEnds.{same_end}
 use Rattle.protocol_laws.proofs.Growth.{Goes}
-
--- a Prepare in a log is one of its Prepares
-pub stands_prepared : (log : List Record) (p : Transaction) → Contains log (Prepare p) → Contains (prepares log) p
-stands_prepared log p there = contains_filter_map prepare_in log (Prepare p) p there refl
 
 -- the events of a site stay its own Commits as its log grows
 module _ (plan : PlanData) (w v : Cluster) (s : ℕ) (more : List Record) (events : List CommitEvent) (laws : LogLaws s (w.log s)) (g : Goes plan w v s more events)
@@ -195,7 +191,7 @@ module _ (plan : PlanData) (w : Cluster) (h : Honest w) (laws : (k : ℕ) → Lo
           let here : IsEventOf cut.0 e = event_of cut.0 e early in
           known_event p.id.site e (record {
             committed = in_log (Commit e.prepare.id e.time) here.committed;
-            prepared = stands_prepared (w.log p.id.site) e.prepare (in_log (Prepare e.prepare) (prepare_stands cut.0 e.prepare here.prepared));
+            prepared = prepare_listed (w.log p.id.site) e.prepare (in_log (Prepare e.prepare) (prepare_stands cut.0 e.prepare here.prepared));
           })
 
       named : (key : List ℕ) (version : Version) → version ≡ current cut.0 key → IsVersionIn w.history (w.log p.id.site) key version

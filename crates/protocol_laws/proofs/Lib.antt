@@ -31,3 +31,7 @@ pub mod Releases
 pub mod Takings
 pub mod HonestSteps
 pub mod Runs
+pub mod OrderedLists
+pub mod NamedAborts
+pub mod SerialClusters
+pub mod ReachedClusters

@@ -16,4 +16,6 @@ pub mod Views
 pub mod LogLaws
 pub mod Reach
 pub mod ClusterHistories
+pub mod ClusterAborts
+pub mod ReachedClusters
 pub mod Knowledge
