@@ -32,8 +32,6 @@ use Rattle.helios_model.specs.Messages.{advanced, arrived}
 use Rattle.helios_model.specs.Spellable.{IsMessageOf, IsSpellableRecord}
 use Rattle.helios_model.specs.Step.{MayBeAsked, after_entries, after_entry, by_clock, is_journaled, step}
 use Rattle.helios_model.specs.World.{message_in, messages_in, replies}
-use Rattle.protocol_laws.specs.LogLaws.{LogLaws}
-use Rattle.protocol_laws.specs.ClusterHistories.{IsHistory}
 use Rattle.protocol_laws.specs.Placed.{IsPlaced}
 use Rattle.protocol_laws.specs.Clusters.{Cluster, Honest, Letter}
 use Rattle.protocol_laws.specs.SmallSteps.{SmallStep, IsReached}
@@ -44,6 +42,7 @@ use Rattle.protocol_laws.proofs.Lists.{all_from, contains_filter, contains_from_
 use Rattle.protocol_laws.proofs.OneMore.{unfinished_end}
 use Rattle.protocol_laws.proofs.Sequences.{mem_from_contains, mem_left}
 use Rattle.protocol_laws.proofs.KnownRecords.{home}
+use Rattle.protocol_laws.proofs.ReachedClusters.{each_cluster_is_honest, each_cluster_is_kept}
 use Rattle.protocol_laws.proofs.Placed.{placed_advanced, placed_arrived, placed_commits, placed_entered, placed_entry}
 use Rattle.protocol_laws.proofs.Asks.{free_asked, next_own_above, unrefused_free}
 use Rattle.protocol_laws.proofs.Chains.{IsShown, shown_arrived, shown_clock, shown_commit, shown_entered, shown_sent}
@@ -175,13 +174,7 @@ still_come plan letters more (Request ask) h = tt
 still_come plan letters more (Pull to) h = tt
 still_come plan letters more (Push m) h = mem_left (letter_of plan m) letters more h
 
--- what is known of each cluster that small steps reach
-pub record AreKept (plan : PlanData) : Type 0 where
-  pub honest : (u : Cluster) → IsReached plan u → Honest u
-  pub laws : (u : Cluster) → IsReached plan u → (s : ℕ) → LogLaws s (u.log s)
-  pub history : (u : Cluster) → IsReached plan u → IsHistory plan u
-
-module _ (plan : PlanData) (kept : AreKept plan) (w : Cluster) where
+module _ (plan : PlanData) (w : Cluster) where
   commits_shown : (n : Node) (ps : List Transaction) (letters : List Letter) → IsPlaced plan n.site n → n.site < count_of plan
       → AllPairs (λ a b. same_id a.id b.id ≡ false) ps → All (IsReady plan n) ps → IsShown plan w n letters
       → IsShown plan w (fold (commit_one plan) n (map (λ p. p.id) ps)) letters
@@ -199,7 +192,7 @@ module _ (plan : PlanData) (kept : AreKept plan) (w : Cluster) where
       → IsShown plan w (settle plan n) letters
   settle_shown n letters placed low shown =
       let ids : AllPairs (λ a b. same_id a.id b.id ≡ false) (prepares n.log) =
-      subst (λ l. AllPairs (λ a b. same_id a.id b.id ≡ false) (prepares l)) shown.same_log (kept.laws shown.cluster shown.reached n.site).pool.ids in
+      subst (λ l. AllPairs (λ a b. same_id a.id b.id ≡ false) (prepares l)) shown.same_log ((each_cluster_is_kept plan shown.cluster shown.reached).laws n.site).pool.ids in
       commits_shown n (ready_ones plan n) letters placed low
       (AllPairs-filter (λ a b. same_id a.id b.id ≡ false) (λ p. is_reached plan n p.id.time) (own_open n)
       (AllPairs-filter (λ a b. same_id a.id b.id ≡ false) (is_own n.site) (unfinished n.log)
@@ -209,7 +202,7 @@ module _ (plan : PlanData) (kept : AreKept plan) (w : Cluster) where
   log_sites : (n : Node) (letters : List Letter) → IsShown plan w n letters → All (λ r. origin r < count_of plan) n.log
   log_sites n letters shown =
       subst (λ l. All (λ r. origin r < count_of plan) l) shown.same_log
-      (sites_only plan shown.cluster shown.reached (kept.honest shown.cluster shown.reached) n.site)
+      (sites_only plan shown.cluster shown.reached (each_cluster_is_honest plan shown.cluster shown.reached) n.site)
 
   request_shown : (n : Node) (reading : ℕ) (ask : Asking) (letters : List Letter) → IsPlaced plan n.site n → n.site < count_of plan
       → IsShown plan w n letters → (o : Option Reply) → refusal n ask ≡ o

@@ -33,8 +33,9 @@ use Rattle.protocol_laws.proofs.Sequences.{mem_from_contains, mem_left}
 use Rattle.protocol_laws.proofs.Worlds.{first_entries, first_journals, journals_stay, kept_elsewhere, kept_here}
 use Rattle.protocol_laws.proofs.Placed.{node_placed, placed_entries}
 use Rattle.protocol_laws.proofs.Views.{within_nothing}
+use Rattle.protocol_laws.proofs.ReachedClusters.{each_cluster_is_kept}
 use Rattle.protocol_laws.proofs.Chains.{IsShown}
-use Rattle.protocol_laws.proofs.Inputs.{AreKept, HasCome, entries_shown}
+use Rattle.protocol_laws.proofs.Inputs.{HasCome, entries_shown}
 
 -- the own Commits behind the first records are those that the log gained
 own_gained : (site : ℕ) (log more : List Record) → All (IsBacked log) log
@@ -91,7 +92,7 @@ released_came plan w (Request ask) h = tt
 released_came plan w (Pull to) h = tt
 released_came plan w (Push m) h = mem_from_contains (letters_of plan w.sent) (letter_of plan m) (contains_map (letter_of plan) w.sent m h)
 
-module _ (plan : PlanData) (known_of : AreKept plan) (grows : (n : Node) (es : List Entry) → GrowsTo n.log (after_entries plan n es).log) where
+module _ (plan : PlanData) (grows : (n : Node) (es : List Entry) → GrowsTo n.log (after_entries plan n es).log) where
 
   -- a site of a world, before its batch
   begun : (w : World) (s : ℕ) → IsReached plan (cluster_of plan w) → IsShown plan (cluster_of plan w) (node_of plan w s) (letters_of plan w.sent)
@@ -145,7 +146,7 @@ module _ (plan : PlanData) (known_of : AreKept plan) (grows : (n : Node) (es : L
 
     shown : IsShown plan (cluster_of plan w) after letters
     shown =
-        entries_shown plan known_of (cluster_of plan w) s may.here (node_of plan w s) entries (letters_of plan w.sent) (node_placed plan w s) may.each
+        entries_shown plan (cluster_of plan w) s may.here (node_of plan w s) entries (letters_of plan w.sent) (node_placed plan w s) may.each
         (All-weaker (λ e. IsReleased w e.input) (λ e. HasCome plan (letters_of plan w.sent) e.input) (λ e there. released_came plan w e.input there)
         entries may.released)
         (begun w s reached)
@@ -156,14 +157,14 @@ module _ (plan : PlanData) (known_of : AreKept plan) (grows : (n : Node) (es : L
     committed : own_commits s after.log (length (node_of plan w s).log) ≡ shown.events
     committed =
         events_gained s (node_of plan w s).log after.log w.history shown.events
-        (known_of.laws (cluster_of plan w) reached s).pool.backed
+        ((each_cluster_is_kept plan (cluster_of plan w) reached).laws s).pool.backed
         (grows (node_of plan w s) entries)
         (subst (λ k. All (λ e. is_own_commit k e ≡ true) shown.events) here shown.own)
-        ((known_of.history (cluster_of plan w) reached).own s)
+        ((each_cluster_is_kept plan (cluster_of plan w) reached).history.own s)
         (subst (λ h. filter (is_own_commit s) h ≡ filter (is_own_commit s) (commits after.log)) shown.history
         (subst (λ l. filter (is_own_commit s) shown.cluster.history ≡ filter (is_own_commit s) (commits l))
         (ap shown.cluster.log (sym here) ∙ shown.same_log)
-        ((known_of.history shown.cluster shown.reached).own s)))
+        ((each_cluster_is_kept plan shown.cluster shown.reached).history.own s)))
 
     low : s < length w.journals
     low = rw many may.here
