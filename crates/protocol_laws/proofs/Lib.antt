@@ -9,3 +9,6 @@ pub mod SerialSteps
 pub mod Asks
 pub mod Worlds
 pub mod Placed
+pub mod Grids
+pub mod OwnOpen
+pub mod EndRuns
