@@ -12,3 +12,4 @@ pub mod Placed
 pub mod Grids
 pub mod OwnOpen
 pub mod EndRuns
+pub mod ArrivalSteps
