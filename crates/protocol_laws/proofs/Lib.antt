@@ -13,3 +13,6 @@ pub mod Grids
 pub mod OwnOpen
 pub mod EndRuns
 pub mod ArrivalSteps
+pub mod NodeRules
+pub mod Ceilings
+pub mod Growth
