@@ -35,3 +35,10 @@ pub mod OrderedLists
 pub mod NamedAborts
 pub mod SerialClusters
 pub mod ReachedClusters
+pub mod Grids
+pub mod OwnOpen
+pub mod EndRuns
+pub mod ArrivalSteps
+pub mod NodeRules
+pub mod Ceilings
+pub mod WorldGrowth

@@ -1,10 +1,11 @@
 -- What is told and committed: the serial history, the refusals that name their cause, and what stays.
-use Rattle.std.specs.Prelude.{◌≡◌, ℕ, ◌<◌, List, ◌++◌, length, filter, All}
+use Rattle.std.specs.Prelude.{◌≡◌, ℕ, ◌<◌, ◌≤◌, List, ◌++◌, length, filter, All}
 use Rattle.helios_model.specs.Plans.{PlanData, IsAccepted, count_of}
 use Rattle.helios_model.specs.Log.{commits}
+use Rattle.helios_model.specs.Node.{known}
 use Rattle.helios_model.specs.Serial.{IsSerial}
 use Rattle.helios_model.specs.NamedAbort.{ToldIsNamed}
-use Rattle.helios_model.specs.World.{World, Event, MayRun, node_of, is_own_commit, run}
+use Rattle.helios_model.specs.World.{World, Event, node_of, is_own_commit, run}
 use Rattle.protocol_laws.specs.Reached.{InEachWorld}
 
 -- the history is a serial one in each world of an accepted plan
@@ -28,12 +29,15 @@ pub record GrowsTo {X : Type 0} (old new : List X) : Type 0 where
   pub more : List X
   pub grown : new ≡ old ++ more
 
--- what is told, committed or logged stays where it is
+-- what is told, sent, committed or logged stays where it is, and no time in a site's table falls
 pub record WorldGrowsTo (plan : PlanData) (w v : World) : Type 0 where
   pub told : GrowsTo w.told v.told
+  pub sent : GrowsTo w.sent v.sent
   pub history : GrowsTo w.history v.history
   pub logs : (k : ℕ) → k < count_of plan → GrowsTo (node_of plan w k).log (node_of plan v k).log
+  pub times : (k a b : ℕ) → k < count_of plan → a < count_of plan → b < count_of plan
+      → known plan (node_of plan w k) a b ≤ known plan (node_of plan v k) a b
 
+-- so it is whatever happens, in any world whose journals are as many as the plan's sites
 abbrev pub EachWorldGrows : Type 0
-EachWorldGrows = (plan : PlanData) (w : World) (events : List Event) → length w.journals ≡ count_of plan → MayRun plan w events
-    → WorldGrowsTo plan w (run plan w events)
+EachWorldGrows = (plan : PlanData) (w : World) (events : List Event) → length w.journals ≡ count_of plan → WorldGrowsTo plan w (run plan w events)

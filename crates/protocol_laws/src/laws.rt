@@ -1,5 +1,7 @@
 //! Each law is carried by a function with an empty body, whose one clause states it of every plan and every list of
 //! steps.
+ghost use Rattle.protocol_laws.specs.Histories.{EachWorldGrows};
+ghost use Rattle.protocol_laws.specs.Ceiling.{EachNodeStaysBelow};
 ghost use Rattle.protocol_laws.specs.Placed.{EachNodeIsPlaced};
 ghost use Rattle.protocol_laws.specs.Moves.{BatchMovesOneNode};
 ghost use Rattle.protocol_laws.specs.Symmetry.{ConflictIsSymmetric};
@@ -25,4 +27,15 @@ pub fn each_node_is_placed()
 /// restart move none. An input that is not journaled leaves the node as it is.
 pub fn batch_moves_one_node()
     ensures { BatchMovesOneNode }
+{}
+
+/// A site has at most 65,536 own unfinished transactions, and its clock comes at most to 2^62 - 2^16 half microseconds.
+pub fn each_node_stays_below()
+    ensures { EachNodeStaysBelow }
+{}
+
+/// Steps only add at the end of what was told, of what was sent, of the history and of each site's log, and no time in a
+/// site's table falls.
+pub fn each_world_grows()
+    ensures { EachWorldGrows }
 {}

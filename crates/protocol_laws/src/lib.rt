@@ -3,4 +3,7 @@
 
 mod laws;
 
-pub use laws::{asked_is_transaction, batch_moves_one_node, conflict_is_symmetric, each_node_is_placed};
+pub use laws::{
+    asked_is_transaction, batch_moves_one_node, conflict_is_symmetric, each_node_is_placed,
+    each_node_stays_below, each_world_grows,
+};
