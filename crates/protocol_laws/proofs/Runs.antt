@@ -32,6 +32,8 @@ use Rattle.protocol_laws.proofs.Committed.{commits_grown}
 use Rattle.protocol_laws.proofs.Sequences.{mem_from_contains, mem_left}
 use Rattle.protocol_laws.proofs.Worlds.{first_entries, first_journals, journals_stay, kept_elsewhere, kept_here}
 use Rattle.protocol_laws.proofs.Placed.{node_placed, placed_entries}
+use Rattle.protocol_laws.proofs.NodeRules.{node_steady}
+use Rattle.protocol_laws.proofs.WorldGrowth.{GoesOn, entries_go}
 use Rattle.protocol_laws.proofs.Views.{within_nothing}
 use Rattle.protocol_laws.proofs.ReachedClusters.{each_cluster_is_kept}
 use Rattle.protocol_laws.proofs.Chains.{IsShown}
@@ -92,7 +94,7 @@ released_came plan w (Request ask) h = tt
 released_came plan w (Pull to) h = tt
 released_came plan w (Push m) h = mem_from_contains (letters_of plan w.sent) (letter_of plan m) (contains_map (letter_of plan) w.sent m h)
 
-module _ (plan : PlanData) (grows : (n : Node) (es : List Entry) → GrowsTo n.log (after_entries plan n es).log) where
+module _ (plan : PlanData) where
 
   -- a site of a world, before its batch
   begun : (w : World) (s : ℕ) → IsReached plan (cluster_of plan w) → IsShown plan (cluster_of plan w) (node_of plan w s) (letters_of plan w.sent)
@@ -154,11 +156,16 @@ module _ (plan : PlanData) (grows : (n : Node) (es : List Entry) → GrowsTo n.l
     here : after.site ≡ s
     here = (placed_entries plan s (node_of plan w s) entries (node_placed plan w s)).at_site
 
+    grows : GrowsTo (node_of plan w s).log after.log
+    grows =
+        let gone : GoesOn plan (node_of plan w s) after = entries_go plan (node_of plan w s) entries (node_steady plan w s may.here) in
+        record { more = gone.more; grown = gone.grown }
+
     committed : own_commits s after.log (length (node_of plan w s).log) ≡ shown.events
     committed =
         events_gained s (node_of plan w s).log after.log w.history shown.events
         ((each_cluster_is_kept plan (cluster_of plan w) reached).laws s).pool.backed
-        (grows (node_of plan w s) entries)
+        grows
         (subst (λ k. All (λ e. is_own_commit k e ≡ true) shown.events) here shown.own)
         ((each_cluster_is_kept plan (cluster_of plan w) reached).history.own s)
         (subst (λ h. filter (is_own_commit s) h ≡ filter (is_own_commit s) (commits after.log)) shown.history
