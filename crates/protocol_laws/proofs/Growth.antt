@@ -29,7 +29,7 @@ use Rattle.protocol_laws.proofs.OneMore.{prepare_of_grows, unfinished_is, prepar
 use Rattle.protocol_laws.proofs.PoolSteps.{found_itself}
 use Rattle.protocol_laws.proofs.Cuts.{pairs_from_cuts}
 use Rattle.protocol_laws.proofs.LogSteps.{laws_commit, laws_begin}
-use Rattle.protocol_laws.proofs.Intakes.{IsBelow, IsAbortAbove, IsTakenIn, HasTaken, IsAhead, IsTaking, ahead_new, takes_all}
+use Rattle.protocol_laws.proofs.Intakes.{IsBelow, IsAbortAbove, IsTakenIn, HasTakenIn, IsAhead, IsTaking, ahead_new, takes_all}
 
 -- an own record is above the site's clock
 abbrev pub IsFresh : Cluster → ℕ → Record → Type 0
@@ -191,7 +191,7 @@ module _ (plan : PlanData) (w v : Cluster) (s : ℕ) (m : Letter) (h : Honest w)
         (contains_from_mem (w.log (origin r)) r (letter_home w m honest_letter r (mem_from_contains m.records r there)).there));
   }
 
-  pub took : HasTaken s m.records before_it (taken w s m)
+  pub took : HasTakenIn s m.records before_it (taken w s m)
   took = takes_all s (w.tab s s) before_it m.records taking
 
   fresh_of : (r : Record) → IsTakenIn s (w.tab s s s) m.records r → IsFresh w s r

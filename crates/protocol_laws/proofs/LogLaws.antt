@@ -21,7 +21,7 @@ use Rattle.protocol_laws.proofs.Ids.{same_id_is, same_id_of}
 use Rattle.protocol_laws.proofs.OneMore.{prepare_stands, unfinished_has}
 use Rattle.protocol_laws.proofs.Fits.{conflict_back}
 use Rattle.protocol_laws.proofs.Cuts.{pairs_cut}
-use Rattle.protocol_laws.proofs.Endings.{ends_once, one_in_log}
+use Rattle.protocol_laws.proofs.Endings.{ends_once, one_in_log, versions_current}
 use Rattle.protocol_laws.proofs.ConflictOrder.{own_later_ends, own_earlier_ends}
 use Rattle.protocol_laws.proofs.OrderSteps.{cut_prepared}
 use Rattle.helios_model.specs.Step.{after_entry, after_entries}
@@ -136,14 +136,7 @@ each_earlier_ends_first plan events may k low p q before after cut there conflic
     (prepare_stands n.log q (cut_prepared n.log before q after cut)) in
     own_later_ends n.site n.log p q (node_laws plan (run plan (first_world plan) events) k low).order own before after cut there conflicts
 
-versions_current : (plan : PlanData) (n : Node) → NodeLaws plan n → VersionsWereCurrent plan n
-versions_current plan n h = λ before r after cut. by_record before r (h.order.each before r after cut)
-  where
-    by_record : (before : List Record) (r : Record) → IsLawful n.site before r → FollowsBefore n.site before r
-    by_record before (Prepare p) lawful = λ own. (lawful.1 own).follows
-    by_record before (Commit id time) lawful = tt
-    by_record before (Abort id time cause) lawful = tt
-
 pub each_version_was_current : EachVersionWasCurrent
 each_version_was_current plan events may k low =
-    versions_current plan (node_of plan (run plan (first_world plan) events) k) (node_laws plan (run plan (first_world plan) events) k low)
+    versions_current (node_of plan (run plan (first_world plan) events) k).site (node_of plan (run plan (first_world plan) events) k).log
+    (node_laws plan (run plan (first_world plan) events) k low).order

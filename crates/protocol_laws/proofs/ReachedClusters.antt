@@ -30,7 +30,7 @@ use Rattle.protocol_laws.proofs.Sequences.{mem_from_contains, contains_from_mem,
 use Rattle.protocol_laws.proofs.OneMore.{prepare_listed}
 use Rattle.protocol_laws.proofs.Committed.{IsEventOf}
 use Rattle.protocol_laws.proofs.Cuts.{no_pairs, no_cut}
-use Rattle.protocol_laws.proofs.Endings.{one_in_log, ends_once}
+use Rattle.protocol_laws.proofs.Endings.{one_in_log, ends_once, ends_behind, versions_current}
 use Rattle.protocol_laws.proofs.ConflictOrder.{own_later_ends, own_earlier_ends}
 use Rattle.protocol_laws.proofs.LogEnds.{IsPreparedBefore, prepared_before}
 use Rattle.protocol_laws.proofs.HonestSteps.{honest_first, honest_step, no_end_is_dropped}
@@ -142,3 +142,79 @@ pub each_end_is_taken : EachEndIsTaken
 each_end_is_taken plan w r =
     let kept : IsKept plan w = each_cluster_is_kept plan w r in
     no_end_is_dropped w kept.honest (λ k. (kept.laws k).order)
+
+pub each_end_is_sound : EachEndIsSound
+each_end_is_sound plan w r k =
+    let laws : LogLaws k (w.log k) = (each_cluster_is_kept plan w r).laws k in
+    record {
+      given_once = laws.pool.ids;
+      behind = ends_behind k (w.log k) laws;
+      once = ends_once k (w.log k) laws.order;
+    }
+
+pub each_conflict_is_apart : EachConflictIsApart
+each_conflict_is_apart plan w r k =
+    let order : OrderLaws k (w.log k) = ((each_cluster_is_kept plan w r).laws k).order in
+    record {
+      clear = order.clear;
+      own_later = λ p q. own_later_ends k (w.log k) p q order;
+      own_earlier = λ p q. own_earlier_ends k (w.log k) p q order;
+    }
+
+pub each_version_is_current : EachVersionIsCurrent
+each_version_is_current plan w r k = versions_current k (w.log k) ((each_cluster_is_kept plan w r).laws k).order
+
+pub each_commit_has_seen : EachCommitHasSeen
+each_commit_has_seen plan w r = (each_cluster_is_kept plan w r).reach
+
+-- a Prepare of a log stands before the Commit of its id
+prepared_first : (site : ℕ) (log : List Record) (p : Transaction) (id : TxnId) (time : ℕ) → LogLaws site log → Contains (prepares log) p → p.id ≡ id
+    → Mem (Commit id time) log → Before (Prepare p) (Commit id time) log
+prepared_first site log p id time laws listed named there =
+    let found : IsPreparedBefore log id (Commit id time) = prepared_before site log laws.order.each id (Commit id time) there (same_id_itself id) in
+    let stands : Contains (prepares log) found.prepare =
+    prepare_listed log found.prepare (contains_from_mem log (Prepare found.prepare) (before_first (Prepare found.prepare) (Commit id time) log found.stands)) in
+    let one : found.prepare ≡ p = one_in_log log found.prepare p laws.pool.ids stands listed (found.named ∙ sym named) in
+    subst (λ q. Before (Prepare q) (Commit id time) log) one found.stands
+
+pub events_are_commits : (plan : PlanData) (w : Cluster) → IsKept plan w → EventsAreCommits w
+events_are_commits plan w kept = record {
+  home = λ e there.
+      let here : IsEventOf (w.log e.prepare.id.site) e = event_home plan w kept.honest kept.laws kept.history e there in
+      prepared_first e.prepare.id.site (w.log e.prepare.id.site) e.prepare e.prepare.id e.time (kept.laws e.prepare.id.site) here.prepared refl
+      (mem_from_contains (w.log e.prepare.id.site) (commit_of e) here.committed);
+  commit = λ i id time there.
+      let found : IsEventIn w i id time =
+      event_of_commit plan w kept.honest kept.laws kept.history i id time (contains_from_mem (w.log i) (Commit id time) there) in
+      record {
+        event = found.event;
+        stands = found.stands;
+        named = found.named;
+        timed = found.timed;
+        prepared = prepared_first i (w.log i) found.event.prepare id time (kept.laws i) found.prepared found.named there;
+      };
+  never_aborted = λ i id time cause e there.
+      aborted_never plan w kept.honest kept.laws kept.history i id time cause e (contains_from_mem (w.log i) (Abort id time cause) there);
+  named = λ i p there. versions_named plan w kept.honest kept.laws kept.history i p (contains_from_mem (w.log i) (Prepare p) there);
+  sent = λ m p came there. sent_versions_named plan w kept.honest kept.laws kept.history m p came (contains_from_mem m.records (Prepare p) there);
+}
+
+pub each_history_is_honest : EachHistoryIsHonest
+each_history_is_honest plan w r =
+    let kept : IsKept plan w = each_cluster_is_kept plan w r in
+    (kept.history, events_are_commits plan w kept)
+
+pub each_conflict_came_before : EachConflictCameBefore
+each_conflict_came_before plan w r accepted v s p e low c there conflicts =
+    let kept : IsKept plan w = each_cluster_is_kept plan w r in
+    exclusion plan w v s p e kept.honest kept.laws kept.reach kept.history low c there conflicts accepted
+
+pub each_history_is_serial : EachHistoryIsSerial
+each_history_is_serial plan w r accepted =
+    let kept : IsKept plan w = each_cluster_is_kept plan w r in
+    (kept.serial accepted, kept.ordered accepted)
+
+pub each_abort_is_named : EachAbortIsNamed
+each_abort_is_named plan w r =
+    let kept : IsKept plan w = each_cluster_is_kept plan w r in
+    aborts_named w kept.honest kept.laws
