@@ -1,4 +1,4 @@
-use Rattle.std.proofs.Common.{◌≡◌, refl, ℕ, List, [], ◌∷◌, fold, Contains}
+use Rattle.std.proofs.Common.{refl, ℕ, List, [], ◌∷◌, fold, Contains}
 use Rattle.std.proofs.lemmas.Bool.{cond_both}
 use Rattle.helios_model.specs.declared.ids.Version.{Version}
 use Rattle.helios_model.specs.declared.ids.Version.TheVariants.{Initial, Of}

@@ -1,4 +1,4 @@
-use Rattle.std.proofs.Common.{◌≡◌, ◌≢◌, ◌∙◌, ap, refl, sym, subst, ℕ, ◌+◌, ◌<◌, ◌≤◌, Bool, true, false, not, ◌||◌, ◌⊎◌, inl, inr, nat_eq, nat_le, Some, is_some, List, [], ◌∷◌, ◌++◌, append_assoc, get_or, map, filter, fold, All, AllPairs, Contains, arith, eqb-true, eq-eqb}
+use Rattle.std.proofs.Common.{◌≡◌, ◌≢◌, ◌∙◌, ap, refl, sym, subst, ℕ, ◌+◌, ◌<◌, ◌≤◌, true, false, not, ◌⊎◌, inl, inr, nat_eq, nat_le, Some, is_some, List, [], ◌∷◌, ◌++◌, append_assoc, get_or, map, filter, fold, All, AllPairs, Contains, arith, eqb-true, eq-eqb}
 use Rattle.std.proofs.lemmas.List.{append-nil}
 use Rattle.std.proofs.lemmas.List.Elements.{All-nil, All-cons, All-head, All-tail, All-push, All-append, All-weaker, All-contains, Contains-append_left, Contains-push, Contains-push_cases}
 use Rattle.std.proofs.lemmas.List.Kept.{AllPairs-filter}
@@ -9,7 +9,7 @@ use Rattle.helios_model.specs.declared.records.Record.TheVariants.{Prepare, Comm
 use Rattle.helios_model.specs.Ids.{same_id}
 use Rattle.helios_model.specs.Transactions.{Transaction, conflict}
 use Rattle.helios_model.specs.Log.{origin, own_time, ends, finished, prepares, prepare_of, unfinished, is_own}
-use Rattle.helios_model.specs.Exchange.{Intake, with_taken, is_passed, is_unfinished, clashing, abort_one, take_prepare, take_end, take_new, take_one, take_all}
+use Rattle.helios_model.specs.Exchange.{Intake, with_taken, is_passed, is_unfinished, abort_one, take_prepare, take_new, take_one, take_all}
 use Rattle.protocol_laws.specs.Shapes.{Rises}
 use Rattle.protocol_laws.specs.Order.{IsNew}
 use Rattle.protocol_laws.specs.LogLaws.{EndsLater, LogLaws}

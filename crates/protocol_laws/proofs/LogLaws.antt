@@ -1,25 +1,21 @@
-use Rattle.std.proofs.Common.{◌≡◌, ◌∙◌, ap, refl, sym, subst, ℕ, ◌+◌, ◌<◌, true, false, ◌⊎◌, inl, inr, Option, Some, None, is_some, List, [], ◌∷◌, ◌++◌, append_assoc, length, get_or, take, drop, All, AllPairs, Contains, arith}
-use Rattle.std.proofs.lemmas.List.{take-append-drop, drop_more, get_or-take, get_or_at, length-take-le, get_or_append_left, get_or_default, length-append}
-use Rattle.std.proofs.lemmas.List.Elements.{All-contains, All-drop, Contains-append_cases}
-use Rattle.std.proofs.lemmas.Bool.{both_ways, cases_Bool, false_from_ne_true, true_from_ne_false}
-use Rattle.helios_model.specs.declared.ids.TxnId.{TxnId}
+use Rattle.std.proofs.Common.{◌≡◌, ◌∙◌, ap, refl, sym, subst, ℕ, ◌<◌, true, Option, Some, None, is_some, List, ◌∷◌, ◌++◌, length, All, Contains, arith}
+use Rattle.std.proofs.lemmas.List.Elements.{All-contains, All-drop}
 use Rattle.helios_model.specs.declared.entries.Entry.{Entry}
 use Rattle.helios_model.specs.declared.records.Record.{Record}
 use Rattle.helios_model.specs.declared.records.Record.TheVariants.{Prepare, Commit, Abort}
 use Rattle.helios_model.specs.Ids.{same_id}
-use Rattle.helios_model.specs.Transactions.{Transaction, conflict}
+use Rattle.helios_model.specs.Transactions.{Transaction}
 use Rattle.helios_model.specs.Plans.{PlanData, count_of}
-use Rattle.helios_model.specs.Log.{origin, own_time, id_of, ends, finished, prepares, prepare_of, unfinished}
+use Rattle.helios_model.specs.Log.{origin, own_time, id_of, prepares, prepare_of}
 use Rattle.helios_model.specs.Node.{Node, empty_node}
 use Rattle.helios_model.specs.World.{World, first_world, node_of, run}
 use Rattle.protocol_laws.specs.Shapes.{Rises}
-use Rattle.protocol_laws.specs.Order.{IsAsked, IsPending, IsClearBehind, IsLawful, OrderLaws}
+use Rattle.protocol_laws.specs.Order.{IsLawful}
 use Rattle.protocol_laws.specs.Nodes.{IsWaited, NodeLaws}
-use Rattle.protocol_laws.specs.Logs.{EachTimeRises, EachLogIsOwn, IdsAreGivenOnce, EachIdIsGivenOnce, EndsPending, EndingsFollow, EachEndingFollows, aborts, aborted, EndsFirst, EachConflictIsOrdered, EachEarlierEndsFirst, FollowsBefore, VersionsWereCurrent, EachVersionWasCurrent, NewCommitsWaited, EachCommitWaited}
-use Rattle.protocol_laws.proofs.Lists.{contains_cases, any_from, some_of, find_passes, pairs_cases}
-use Rattle.protocol_laws.proofs.Ids.{same_id_is, same_id_of}
-use Rattle.protocol_laws.proofs.OneMore.{prepare_stands, unfinished_has}
-use Rattle.protocol_laws.proofs.Fits.{conflict_back}
+use Rattle.protocol_laws.specs.Logs.{EachTimeRises, EachLogIsOwn, IdsAreGivenOnce, EachIdIsGivenOnce, EndsPending, EndingsFollow, EachEndingFollows, EachConflictIsOrdered, EachEarlierEndsFirst, EachVersionWasCurrent, NewCommitsWaited, EachCommitWaited}
+use Rattle.protocol_laws.proofs.Lists.{find_passes}
+use Rattle.protocol_laws.proofs.Ids.{same_id_is}
+use Rattle.protocol_laws.proofs.OneMore.{prepare_stands}
 use Rattle.protocol_laws.proofs.Cuts.{pairs_cut}
 use Rattle.protocol_laws.proofs.Endings.{ends_once, one_in_log, versions_current}
 use Rattle.protocol_laws.proofs.ConflictOrder.{own_later_ends, own_earlier_ends}

@@ -1,30 +1,28 @@
-use Rattle.std.proofs.Common.{◌≡◌, ◌≢◌, ◌∙◌, ap, refl, sym, subst, ℕ, ◌+◌, ◌<◌, true, false, List, [], ◌∷◌, ◌++◌, filter, All, AllPairs, Contains, is_some, eq-eqb, Some}
+use Rattle.std.proofs.Common.{◌≡◌, ◌∙◌, ap, refl, sym, subst, ℕ, ◌+◌, ◌<◌, true, false, List, [], ◌∷◌, filter, All, AllPairs, Contains}
 use Rattle.std.proofs.lemmas.List.{append-nil}
-use Rattle.std.proofs.lemmas.List.Elements.{All-nil, All-contains}
+use Rattle.std.proofs.lemmas.List.Elements.{All-nil}
 use Rattle.helios_model.specs.declared.ids.TxnId.{TxnId}
 use Rattle.helios_model.specs.declared.records.Record.{Record}
 use Rattle.helios_model.specs.declared.records.Record.TheVariants.{Prepare, Commit, Abort}
 use Rattle.helios_model.specs.declared.records.CommitEvent.{CommitEvent}
 use Rattle.helios_model.specs.Ids.{same_id}
 use Rattle.helios_model.specs.Transactions.{Transaction, conflict}
-use Rattle.helios_model.specs.Plans.{PlanData, IsAccepted, count_of}
-use Rattle.helios_model.specs.Log.{prepares, unfinished, current, event_at, commits}
+use Rattle.helios_model.specs.Plans.{PlanData, count_of}
+use Rattle.helios_model.specs.Log.{prepares, current, event_at, commits}
 use Rattle.helios_model.specs.Serial.{Follows, IsSerial}
 use Rattle.helios_model.specs.World.{is_own_commit}
 use Rattle.protocol_laws.specs.Sequences.{Mem, Before}
 use Rattle.protocol_laws.specs.Pool.{IsBacked, IsApart}
-use Rattle.protocol_laws.specs.Order.{OrderLaws, IsLawful}
-use Rattle.protocol_laws.specs.Shapes.{EachBehind}
-use Rattle.protocol_laws.specs.Logs.{IsEnding, EndsPending, FollowsBefore}
-use Rattle.protocol_laws.specs.Clusters.{Letter, Cluster, Honest}
-use Rattle.protocol_laws.specs.SmallSteps.{Begins, Commits, Takes, SmallStep, IsFirst, IsReached}
+use Rattle.protocol_laws.specs.Order.{OrderLaws}
+use Rattle.protocol_laws.specs.Clusters.{Cluster, Honest}
+use Rattle.protocol_laws.specs.SmallSteps.{Commits, SmallStep, IsFirst}
 use Rattle.protocol_laws.specs.SmallSteps.SmallStep.{Tick, Begin, Finish, Take, Send}
 use Rattle.protocol_laws.specs.SmallSteps.IsReached.{Begun, Gone}
 use Rattle.protocol_laws.specs.LogLaws.{EndsLater, LogLaws}
-use Rattle.protocol_laws.specs.Reach.{HasWaited, Reach}
-use Rattle.protocol_laws.specs.ClusterHistories.{IsHistory, commit_of, IsOrdered}
+use Rattle.protocol_laws.specs.Reach.{HasWaited}
+use Rattle.protocol_laws.specs.ClusterHistories.{commit_of}
 use Rattle.protocol_laws.specs.Knowledge.{EachClusterIsHonest, EachEndIsTaken}
-use Rattle.protocol_laws.specs.ReachedClusters.{IsKept, EachClusterIsKept, EndsAreSound, EachEndIsSound, EachConflictIsApart, EachVersionIsCurrent, EachCommitHasSeen, IsCommitOfEvent, EventsAreCommits, EachHistoryIsHonest, EachConflictCameBefore, EachHistoryIsSerial, EachAbortIsNamed}
+use Rattle.protocol_laws.specs.ReachedClusters.{IsKept, EachClusterIsKept, EachEndIsSound, EachConflictIsApart, EachVersionIsCurrent, EachCommitHasSeen, EventsAreCommits, EachHistoryIsHonest, EachConflictCameBefore, EachHistoryIsSerial, EachAbortIsNamed}
 use Rattle.protocol_laws.proofs.Ids.{same_id_itself}
 use Rattle.protocol_laws.proofs.Sequences.{mem_from_contains, contains_from_mem, before_first}
 use Rattle.protocol_laws.proofs.OneMore.{prepare_listed}

@@ -1,4 +1,4 @@
-use Rattle.std.proofs.Common.{◌≡◌, ◌∙◌, ap, refl, sym, ℕ, ◌+◌, ◌<◌, ◌≤◌, true, false, not, get_or, length, ◌||◌, ◌⊎◌, inl, inr, nat_eq, Option, Some, None, is_some, List, [], ◌∷◌, ◌++◌, append_assoc, map, fold, filter, All, AllPairs, Contains, arith, eqb-true}
+use Rattle.std.proofs.Common.{◌≡◌, ◌∙◌, ap, refl, sym, ℕ, ◌+◌, ◌<◌, ◌≤◌, true, false, not, get_or, length, ◌||◌, ◌⊎◌, inl, inr, nat_eq, is_some, List, [], ◌∷◌, ◌++◌, append_assoc, map, fold, filter, All, AllPairs, Contains, arith, eqb-true}
 use Rattle.std.proofs.lemmas.List.{append-nil}
 use Rattle.std.specs.List.{range_with_len}
 use Rattle.std.proofs.lemmas.List.Elements.{All-nil, All-cons, All-head, All-tail, All-weaker, All-contains, filter_passes}
@@ -12,7 +12,7 @@ use Rattle.helios_model.specs.Ids.{same_id}
 use Rattle.helios_model.specs.Transactions.{Transaction}
 use Rattle.helios_model.specs.Plans.{PlanData, count_of, rtt, latency}
 use Rattle.helios_model.specs.Offset.{is_past}
-use Rattle.helios_model.specs.Log.{finished, prepares, prepare_of, unfinished, commits, current, is_own}
+use Rattle.helios_model.specs.Log.{finished, prepares, unfinished, commits, current, is_own}
 use Rattle.helios_model.specs.Node.{Node, known, clock, own_open, with_record}
 use Rattle.helios_model.specs.Settle.{is_reached, commit_one, settle}
 use Rattle.helios_model.specs.Serial.{Follows, IsSerial}
@@ -20,7 +20,6 @@ use Rattle.protocol_laws.specs.Placed.{IsPlaced}
 use Rattle.protocol_laws.specs.Nodes.{NodeLaws}
 use Rattle.protocol_laws.proofs.Placed.{placed_clock}
 use Rattle.protocol_laws.proofs.Lists.{all_from, find_passes, contains_from_filter, pairs_head, pairs_tail}
-use Rattle.protocol_laws.proofs.Ids.{same_id_is, same_id_of, same_id_itself}
 use Rattle.protocol_laws.proofs.OneMore.{finished_one_more, prepare_of_grows, unfinished_is, unfinished_has}
 use Rattle.protocol_laws.proofs.PoolSteps.{found_itself}
 use Rattle.protocol_laws.proofs.NodeSteps.{IsOpen, HasWaited, goes_on_waiting, laws_committed}

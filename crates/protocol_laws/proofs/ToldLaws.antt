@@ -1,23 +1,20 @@
-use Rattle.std.proofs.Common.{◌≡◌, ◌∙◌, ap, refl, sym, subst, ℕ, ◌<◌, true, List, [], ◌∷◌, take, fold, filter, Contains}
+use Rattle.std.proofs.Common.{◌≡◌, ◌∙◌, ap, sym, subst, ℕ, ◌<◌, true, List, take, filter, Contains}
 use Rattle.std.proofs.lemmas.List.{take_at}
 use Rattle.std.proofs.lemmas.List.Elements.{All-weaker, All-contains, Contains-append_left}
-use Rattle.std.proofs.lemmas.Bool.{cond_both}
-use Rattle.helios_model.specs.declared.ids.Version.{Version}
-use Rattle.helios_model.specs.declared.ids.Version.TheVariants.{Initial, Of}
 use Rattle.helios_model.specs.declared.entries.Input.{Input}
 use Rattle.helios_model.specs.declared.entries.Input.TheVariants.{Request}
 use Rattle.helios_model.specs.declared.entries.Reply.{Reply}
 use Rattle.helios_model.specs.declared.entries.Reply.TheVariants.{Prepared, Committed, Overwritten, Conflict, ClockSpent, PoolFull}
 use Rattle.helios_model.specs.declared.records.Record.{Record}
 use Rattle.helios_model.specs.declared.records.CommitEvent.{CommitEvent}
-use Rattle.helios_model.specs.Transactions.{Asking, writes_key}
+use Rattle.helios_model.specs.Transactions.{Asking}
 use Rattle.helios_model.specs.Plans.{PlanData, count_of}
-use Rattle.helios_model.specs.Log.{commits, version_after, current}
+use Rattle.helios_model.specs.Log.{commits}
 use Rattle.helios_model.specs.NamedAbort.{IsVersionIn, IsNamed, IsNamedTo, ToldIsNamed}
 use Rattle.helios_model.specs.World.{World, Told, first_world, node_of, is_own_commit, run}
 use Rattle.protocol_laws.specs.Histories.{EachRefusalIsNamed, Stays, StaysTo, ToldStays, EachToldStays}
-use Rattle.protocol_laws.proofs.Lists.{contains_here, contains_later, contains_filter, contains_from_filter}
-use Rattle.protocol_laws.proofs.Committed.{event_of, commits_grown}
+use Rattle.protocol_laws.proofs.Lists.{contains_filter, contains_from_filter}
+use Rattle.protocol_laws.proofs.Committed.{commits_grown}
 use Rattle.protocol_laws.proofs.CurrentVersions.{current_named}
 use Rattle.protocol_laws.proofs.Requests.{Says, SaysTo}
 use Rattle.protocol_laws.proofs.Replies.{IsToldIn}
