@@ -1,3 +1,4 @@
+-- Of two Prepares of a log that conflict, the first has its Commit or Abort before the other.
 use Rattle.std.proofs.Common.{◌≡◌, ◌∙◌, ap, refl, sym, subst, ℕ, true, false, ◌⊎◌, inl, inr, List, ◌∷◌, ◌++◌, append_assoc, Contains}
 use Rattle.std.proofs.lemmas.List.Elements.{All-contains, Contains-append_cases}
 use Rattle.std.proofs.lemmas.Bool.{both_ways, cases_Bool, true_from_ne_false}

@@ -1,3 +1,4 @@
+-- Plain consequences of the laws of one log: one Prepare and at most one end for each id, and the end behind the Prepare.
 use Rattle.std.proofs.Common.{◌≡◌, ℕ, true, false, ◌⊎◌, inl, inr, refl, sym, Option, Some, None, is_some, List, AllPairs, Contains}
 use Rattle.std.proofs.lemmas.List.Elements.{All-contains}
 use Rattle.std.proofs.lemmas.Bool.{both_ways, false_from_ne_true}

@@ -1,3 +1,4 @@
+-- No conflicting commit comes between a transaction and its own Commit: the one place where the plan has to be an accepted one.
 use Rattle.std.proofs.Common.{◌≡◌, ◌≢◌, ◌∙◌, ap, refl, sym, subst, ℕ, ◌+◌, ◌*◌, ◌<◌, ◌≤◌, true, false, ◌⊎◌, inl, inr, List, ◌∷◌, ◌++◌, append_assoc, Contains, arith}
 use Rattle.std.proofs.lemmas.List.Elements.{All-contains, Contains-append_left, Contains-append_cases}
 use Rattle.std.proofs.lemmas.Bool.{cases_eq, cases_lt, both_ways}

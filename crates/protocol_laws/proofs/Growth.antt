@@ -1,3 +1,4 @@
+-- What each small step adds to the log of its site and to the history.
 use Rattle.std.proofs.Common.{◌≡◌, ◌≢◌, ◌∙◌, ap, refl, sym, subst, ℕ, ◌+◌, ◌<◌, ◌≤◌, max, false, ◌⊎◌, inl, inr, Option, Some, None, option_map, is_some, List, [], ◌∷◌, ◌++◌, filter, filter_map, All, Contains, arith, eq-eqb, ne_eqb}
 use Rattle.std.specs.List.{cons_option}
 use Rattle.std.proofs.lemmas.List.{append-nil}

@@ -1,3 +1,4 @@
+-- The history and the logs tell of the same commits.
 use Rattle.std.proofs.Common.{◌≡◌, ◌≢◌, ◌∙◌, ap, refl, sym, subst, ℕ, ◌<◌, true, false, ◌⊎◌, inl, inr, Some, option_map, is_some, eq-eqb, eqb-true, ne_eqb, List, ◌∷◌, ◌++◌, get_or, filter, filter_map, All, Contains}
 use Rattle.std.proofs.lemmas.List.{append-nil}
 use Rattle.std.proofs.lemmas.List.Elements.{All-append, All-contains, filter-append, filter_passes, Contains-append_left}
@@ -72,6 +73,14 @@ module _ (plan : PlanData) (w v : Cluster) (s : ℕ) (more : List Record) (event
     sites_go old = subst (All (λ e. e.prepare.id.site < count_of plan)) (sym g.history)
         (All-append (λ e. e.prepare.id.site < count_of plan) w.history events old g.placed)
 
+-- two Prepares of one id in any two logs are the same
+pub same_prepare : (w : Cluster) → Honest w → (i j : ℕ) (p q : Transaction) → Contains (prepares (w.log i)) p → Contains (prepares (w.log j)) q → p.id ≡ q.id → p ≡ q
+same_prepare w h i j p q at_p at_q same =
+    let one : Prepare p ≡ Prepare q =
+    same_record w h i j (Prepare p) (Prepare q) (mem_from_contains (w.log i) (Prepare p) (prepare_stands (w.log i) p at_p))
+    (mem_from_contains (w.log j) (Prepare q) (prepare_stands (w.log j) q at_q)) (ap (λ x. x.site) same) (ap (λ x. x.time) same) in
+    cc
+
 -- a Commit of a log, with the event that it is
 pub record IsEventIn (w : Cluster) (i : ℕ) (id : TxnId) (time : ℕ) : Type 0 where
   pub event : CommitEvent
@@ -89,14 +98,6 @@ module _ (plan : PlanData) (w : Cluster) (h : Honest w) (laws : (k : ℕ) → Lo
       let moved : Contains (filter (is_own_commit e.prepare.id.site) (commits (w.log e.prepare.id.site))) e =
       subst (λ es. Contains es e) (history.own e.prepare.id.site) own in
       event_of (w.log e.prepare.id.site) e (contains_from_filter (is_own_commit e.prepare.id.site) (commits (w.log e.prepare.id.site)) e moved).0
-
-  -- a Prepare of an id that has one at home is that one
-  pub same_prepare : (i j : ℕ) (p q : Transaction) → Contains (prepares (w.log i)) p → Contains (prepares (w.log j)) q → p.id ≡ q.id → p ≡ q
-  same_prepare i j p q at_p at_q same =
-      let one : Prepare p ≡ Prepare q =
-      same_record w h i j (Prepare p) (Prepare q) (mem_from_contains (w.log i) (Prepare p) (prepare_stands (w.log i) p at_p))
-      (mem_from_contains (w.log j) (Prepare q) (prepare_stands (w.log j) q at_q)) (ap (λ x. x.site) same) (ap (λ x. x.time) same) in
-      cc
 
   -- a Commit in any log is that of an event of the history, and its Prepare is in that log too
   pub event_of_commit : (i : ℕ) (id : TxnId) (time : ℕ) → Contains (w.log i) (Commit id time) → IsEventIn w i id time
@@ -117,7 +118,7 @@ module _ (plan : PlanData) (w : Cluster) (h : Honest w) (laws : (k : ℕ) → Lo
             (subst (λ es. Contains es (event_at time found.0)) (sym (history.own id.site)) kept)).0;
         named = found.3;
         timed = refl;
-        prepared = subst (λ p. Contains (prepares (w.log i)) p) (same_prepare i id.site local.0 found.0 local.2 found.2 (local.3 ∙ sym found.3)) local.2;
+        prepared = subst (λ p. Contains (prepares (w.log i)) p) (same_prepare w h i id.site local.0 found.0 local.2 found.2 (local.3 ∙ sym found.3)) local.2;
       }
 
   -- what is committed in a log is an event of the history
@@ -136,7 +137,7 @@ module _ (plan : PlanData) (w : Cluster) (h : Honest w) (laws : (k : ℕ) → Lo
       let backed : is_some (prepare_of (w.log i) e.prepare.id) ≡ true =
       All-contains (IsBacked (w.log i)) (w.log i) (Commit e.prepare.id e.time) (laws i).pool.backed there in
       let found = prepare_found (w.log i) e.prepare.id backed in
-      let one : found.0 ≡ e.prepare = same_prepare i e.prepare.id.site found.0 e.prepare found.2 (event_home e in_history).prepared found.3 in
+      let one : found.0 ≡ e.prepare = same_prepare w h i e.prepare.id.site found.0 e.prepare found.2 (event_home e in_history).prepared found.3 in
       contains_filter_map (commit_in (w.log i)) (w.log i) (Commit e.prepare.id e.time) e there
       (ap (option_map (event_at e.time)) (found.1 ∙ ap Some one))
 

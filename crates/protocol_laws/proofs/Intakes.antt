@@ -1,3 +1,4 @@
+-- The laws of one log hold again once a site has taken a message's records in, whoever sent them.
 use Rattle.std.proofs.Common.{◌≡◌, ◌≢◌, ◌∙◌, ap, refl, sym, subst, ℕ, ◌+◌, ◌<◌, ◌≤◌, true, false, not, ◌⊎◌, inl, inr, nat_eq, nat_le, Some, is_some, List, [], ◌∷◌, ◌++◌, append_assoc, get_or, map, filter, fold, All, AllPairs, Contains, arith, eqb-true, eq-eqb}
 use Rattle.std.proofs.lemmas.List.{append-nil}
 use Rattle.std.proofs.lemmas.List.Elements.{All-nil, All-cons, All-head, All-tail, All-push, All-append, All-weaker, All-contains, Contains-append_left, Contains-push, Contains-push_cases}

@@ -1,3 +1,4 @@
+-- The laws of one log, but for own transactions that are excused, as one more record stands at its end.
 use Rattle.std.proofs.Common.{◌≡◌, ◌≢◌, ◌∙◌, ap, refl, ℕ, ◌<◌, Bool, false, not, Some, is_some, List, [], ◌∷◌, ◌++◌, filter, All, AllPairs, Contains}
 use Rattle.std.proofs.lemmas.List.Elements.{All-push, All-same, All-weaker, All-filter, All-contains}
 use Rattle.std.proofs.lemmas.List.Quantifiers.{all_pairs_push}

@@ -1,3 +1,4 @@
+-- Each Abort names a transaction of another site that conflicts.
 use Rattle.std.proofs.Common.{◌≡◌, ap, refl, subst, ℕ, List, ◌∷◌, ◌++◌}
 use Rattle.helios_model.specs.declared.records.Record.{Record}
 use Rattle.helios_model.specs.declared.records.Record.TheVariants.{Prepare, Abort}

@@ -1,3 +1,4 @@
+-- Lists with the same elements in one order, and what they make of a key's version.
 use Rattle.std.proofs.Common.{◌≡◌, ◌∙◌, ap, refl, sym, subst, ℕ, ◌<◌, true, false, ◌⊎◌, inl, inr, Option, Some, None, List, [], ◌∷◌, fold, filter, filter_map, AllPairs, Contains, arith}
 use Rattle.std.specs.List.{cons_option}
 use Rattle.std.proofs.lemmas.List.Elements.{All-contains}

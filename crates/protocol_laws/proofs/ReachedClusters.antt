@@ -1,3 +1,4 @@
+-- What small steps keep holds in each cluster that they reach.
 use Rattle.std.proofs.Common.{◌≡◌, ◌∙◌, ap, refl, sym, subst, ℕ, ◌+◌, ◌<◌, true, false, List, [], ◌∷◌, filter, All, AllPairs, Contains}
 use Rattle.std.proofs.lemmas.List.{append-nil}
 use Rattle.std.proofs.lemmas.List.Elements.{All-nil}
@@ -22,7 +23,7 @@ use Rattle.protocol_laws.specs.LogLaws.{EndsLater, LogLaws}
 use Rattle.protocol_laws.specs.Reach.{HasWaited}
 use Rattle.protocol_laws.specs.ClusterHistories.{commit_of}
 use Rattle.protocol_laws.specs.Knowledge.{EachClusterIsHonest, EachEndIsTaken}
-use Rattle.protocol_laws.specs.ReachedClusters.{IsKept, EachClusterIsKept, EachEndIsSound, EachConflictIsApart, EachVersionIsCurrent, EachCommitHasSeen, EventsAreCommits, EachHistoryIsHonest, EachConflictCameBefore, EachHistoryIsSerial, EachAbortIsNamed}
+use Rattle.protocol_laws.specs.ReachedClusters.{IsKept, EachClusterIsKept, EachEndIsSound, EachIdHasOnePrepare, EachConflictIsApart, EachVersionIsCurrent, EachCommitHasSeen, EventsAreCommits, EachHistoryIsHonest, EachConflictCameBefore, EachHistoryIsSerial, EachAbortIsNamed}
 use Rattle.protocol_laws.proofs.Ids.{same_id_itself}
 use Rattle.protocol_laws.proofs.Sequences.{mem_from_contains, contains_from_mem, before_first}
 use Rattle.protocol_laws.proofs.OneMore.{prepare_listed}
@@ -34,7 +35,7 @@ use Rattle.protocol_laws.proofs.LogEnds.{IsPreparedBefore, prepared_before}
 use Rattle.protocol_laws.proofs.HonestSteps.{honest_first, honest_step, no_end_is_dropped}
 use Rattle.protocol_laws.proofs.Growth.{Goes, tick_goes, send_goes, begin_goes, finish_goes, took, take_goes}
 use Rattle.protocol_laws.proofs.Reaches.{reach_goes, laws_go}
-use Rattle.protocol_laws.proofs.HistoryLinks.{own_events_go, sites_go, IsEventIn, event_home, event_of_commit, aborted_never, versions_named, sent_versions_named}
+use Rattle.protocol_laws.proofs.HistoryLinks.{own_events_go, sites_go, same_prepare, IsEventIn, event_home, event_of_commit, aborted_never, versions_named, sent_versions_named}
 use Rattle.protocol_laws.proofs.Exclusion.{exclusion}
 use Rattle.protocol_laws.proofs.NamedAborts.{aborts_named}
 use Rattle.protocol_laws.proofs.SerialClusters.{ordered_goes, distinct_finish, ordered_finish, serial_finish}
@@ -149,6 +150,11 @@ each_end_is_sound plan w r k =
       behind = ends_behind k (w.log k) laws;
       once = ends_once k (w.log k) laws.order;
     }
+
+pub each_id_has_one_prepare : EachIdHasOnePrepare
+each_id_has_one_prepare plan w r i j p q at_p at_q same =
+    same_prepare w (each_cluster_is_kept plan w r).honest i j p q (prepare_listed (w.log i) p (contains_from_mem (w.log i) (Prepare p) at_p))
+    (prepare_listed (w.log j) q (contains_from_mem (w.log j) (Prepare q) at_q)) same
 
 pub each_conflict_is_apart : EachConflictIsApart
 each_conflict_is_apart plan w r k =

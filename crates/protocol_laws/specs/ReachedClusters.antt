@@ -45,6 +45,10 @@ pub record EndsAreSound (log : List Record) : Type 0 where
 abbrev pub EachEndIsSound : Type 0
 EachEndIsSound = InEachCluster (λ plan w. (k : ℕ) → EndsAreSound (w.log k))
 
+-- Prepares of one id in any two logs are the same
+abbrev pub EachIdHasOnePrepare : Type 0
+EachIdHasOnePrepare = InEachCluster (λ plan w. (i j : ℕ) (p q : Transaction) → Mem (Prepare p) (w.log i) → Mem (Prepare q) (w.log j) → p.id ≡ q.id → p ≡ q)
+
 -- no Prepare behind an own unfinished one conflicts with it; and of two that conflict, of which the later one is own, or
 -- the earlier one is own and never aborted, the earlier one is ended before the later one is taken
 pub record ConflictsAreApart (site : ℕ) (log : List Record) : Type 0 where
