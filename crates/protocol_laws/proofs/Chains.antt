@@ -1,23 +1,21 @@
 -- A site's node as a cluster shows it, and the small steps of a node: its clock, a transaction that is taken, a Commit, a message
 -- that comes, and a message that is sent.
-use Rattle.std.proofs.Common.{◌≡◌, ◌≢◌, ◌∙◌, ap, refl, sym, subst, ℕ, ◌+◌, ◌*◌, ◌<◌, ◌≤◌, Bool, true, false, ◌&&◌, ◌||◌, ◌⊎◌, inl, inr, cond, nat_eq, nat_lt, nat_le, max, Option, Some, None, List, [], ◌∷◌, ◌++◌, append_assoc, length, get_or, filter, find, fold, map, take, drop, All, Contains, arith}
-use Rattle.std.specs.List.{range_with_len}
-use Rattle.std.proofs.lemmas.List.{append-nil, get_or_past, length-replicate}
+use Rattle.std.proofs.Common.{◌≡◌, ◌≢◌, ◌∙◌, ap, refl, sym, subst, ℕ, ◌+◌, ◌<◌, ◌≤◌, true, ◌&&◌, ◌||◌, ◌⊎◌, inl, inr, cond, nat_eq, nat_lt, nat_le, max, Option, Some, None, List, [], ◌∷◌, ◌++◌, append_assoc, get_or, find, take, drop, All, Contains, arith}
+use Rattle.std.proofs.lemmas.List.{append-nil}
 use Rattle.std.proofs.lemmas.List.Elements.{All-nil, All-cons, All-head, All-tail, All-append, All-contains, All-filter, All-drop, All-weaker}
 use Rattle.std.proofs.lemmas.List.FromFn.{get_or-map-range_with_len}
 use Rattle.std.proofs.lemmas.Bool.{and_right, cases_eq, cases_lt, cond-true, cond-false, eq-eqb, eqb-true, ne_eqb, lt-ltb, le-ltb}
-use Rattle.helios_model.specs.declared.ids.TxnId.{TxnId}
 use Rattle.helios_model.specs.declared.messages.Message.{Message}
 use Rattle.helios_model.specs.declared.records.Record.{Record}
-use Rattle.helios_model.specs.declared.records.Record.TheVariants.{Prepare, Commit, Abort}
+use Rattle.helios_model.specs.declared.records.Record.TheVariants.{Prepare, Commit}
 use Rattle.helios_model.specs.declared.records.CommitEvent.{CommitEvent}
 use Rattle.helios_model.specs.Transactions.{Transaction}
 use Rattle.helios_model.specs.Plans.{PlanData, count_of}
 use Rattle.helios_model.specs.Offset.{is_past}
-use Rattle.helios_model.specs.Grid.{at, put}
-use Rattle.helios_model.specs.Log.{event_at, is_own, origin, own_time, unfinished}
+use Rattle.helios_model.specs.Grid.{put}
+use Rattle.helios_model.specs.Log.{event_at, origin, own_time, unfinished}
 use Rattle.helios_model.specs.Sequences.{Mem}
-use Rattle.helios_model.specs.Exchange.{Intake, cover_at, covered, due, is_due, is_passed, left_off, merged, sent_records, take_all, take_new, take_one}
+use Rattle.helios_model.specs.Exchange.{Intake, cover_at, covered, due, is_due, left_off, merged, take_all, take_new, take_one}
 use Rattle.helios_model.specs.Limits.{most_records}
 use Rattle.helios_model.specs.Node.{Node, clock, known, with_clock}
 use Rattle.helios_model.specs.Settle.{commit_one}
@@ -27,13 +25,13 @@ use Rattle.helios_model.specs.World.{is_own_commit}
 use Rattle.protocol_laws.specs.Order.{IsAsked}
 use Rattle.protocol_laws.specs.Placed.{IsPlaced}
 use Rattle.protocol_laws.specs.Clusters.{Cluster, Letter}
-use Rattle.protocol_laws.specs.SmallSteps.{OwnMoves, Begins, Commits, Takes, Sends, SmallStep, IsReached, taken}
+use Rattle.protocol_laws.specs.SmallSteps.{OwnMoves, Takes, SmallStep, IsReached, taken}
 use Rattle.protocol_laws.specs.SmallSteps.SmallStep.{Tick, Begin, Finish, Take, Send}
 use Rattle.protocol_laws.specs.SmallSteps.IsReached.{Gone}
-use Rattle.protocol_laws.specs.Views.{cover_in, letter_of, table_in, table_of, within}
+use Rattle.protocol_laws.specs.Views.{cover_in, letter_of, table_in, table_of}
 use Rattle.protocol_laws.proofs.Lists.{find_passes}
 use Rattle.protocol_laws.proofs.Sequences.{mem_cases}
-use Rattle.protocol_laws.proofs.Views.{merged_clock, merged_row, merged_rows, put_here, put_other, within_inside, within_same}
+use Rattle.protocol_laws.proofs.Views.{merged_clock, merged_row, merged_rows, put_here, put_other, within_inside}
 
 -- small steps reach a cluster in which a site is as this node and these letters are sent; all else is as it was in the first
 -- cluster, but for own commit events at the end of the history

@@ -1,3 +1,4 @@
+-- Of two Prepares of a log that conflict, the first has its Commit or Abort before the other.
 use Rattle.std.proofs.Common.{◌≡◌, ◌∙◌, ap, refl, sym, subst, ℕ, true, false, ◌⊎◌, inl, inr, List, ◌∷◌, ◌++◌, append_assoc, Contains}
 use Rattle.std.proofs.lemmas.List.Elements.{All-contains, Contains-append_cases}
 use Rattle.std.proofs.lemmas.Bool.{both_ways, cases_Bool, true_from_ne_false}
@@ -7,7 +8,7 @@ use Rattle.helios_model.specs.declared.records.Record.TheVariants.{Prepare, Comm
 use Rattle.helios_model.specs.Transactions.{Transaction, conflict}
 use Rattle.helios_model.specs.Log.{ends, finished, prepares, unfinished}
 use Rattle.protocol_laws.specs.Order.{IsAsked, IsClearBehind, IsLawful, OrderLaws}
-use Rattle.protocol_laws.specs.Logs.{aborts, aborted, EndsFirst}
+use Rattle.helios_model.specs.ConflictOrder.{aborts, aborted, EndsFirst}
 use Rattle.protocol_laws.proofs.Lists.{contains_cases, any_from, some_of}
 use Rattle.protocol_laws.proofs.Ids.{same_id_is}
 use Rattle.protocol_laws.proofs.OneMore.{prepare_stands, unfinished_has}

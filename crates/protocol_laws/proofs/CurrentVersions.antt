@@ -1,4 +1,5 @@
-use Rattle.std.proofs.Common.{◌≡◌, refl, ℕ, List, [], ◌∷◌, fold, Contains}
+-- Which commit a current version is of.
+use Rattle.std.proofs.Common.{refl, ℕ, List, [], ◌∷◌, fold, Contains}
 use Rattle.std.proofs.lemmas.Bool.{cond_both}
 use Rattle.helios_model.specs.declared.ids.Version.{Version}
 use Rattle.helios_model.specs.declared.ids.Version.TheVariants.{Initial, Of}

@@ -1,3 +1,4 @@
+-- Where a list is cut: at an element, and after it grew.
 use Rattle.std.proofs.Common.{◌≡◌, ◌∙◌, ap, refl, sym, subst, ◌+◌, ◌<◌, ◌⊎◌, inl, inr, List, [], ◌∷◌, ◌++◌, length, get_or, take, drop, AllPairs, Contains, arith}
 use Rattle.std.proofs.lemmas.List.{take-append-drop, drop_more, get_or-take, get_or_at, length-take-le, get_or_append_left, get_or_default, length-append}
 use Rattle.protocol_laws.proofs.Sequences.{mem_from_contains, mem_cut}

@@ -1,14 +1,14 @@
-use Rattle.std.proofs.Common.{◌≡◌, ◌≢◌, ◌∙◌, ap, refl, sym, subst, ℕ, ◌+◌, ◌*◌, ◌<◌, ◌≤◌, true, false, ◌⊎◌, inl, inr, List, [], ◌∷◌, ◌++◌, append_assoc, All, Contains, arith}
-use Rattle.std.proofs.lemmas.List.Elements.{All-contains, Contains-append_left, Contains-append_right, Contains-append_cases}
+-- No conflicting commit comes between a transaction and its own Commit: the one place where the plan has to be an accepted one.
+use Rattle.std.proofs.Common.{◌≡◌, ◌≢◌, ◌∙◌, ap, refl, sym, subst, ℕ, ◌+◌, ◌*◌, ◌<◌, ◌≤◌, true, false, ◌⊎◌, inl, inr, List, ◌∷◌, ◌++◌, append_assoc, Contains, arith}
+use Rattle.std.proofs.lemmas.List.Elements.{All-contains, Contains-append_left, Contains-append_cases}
 use Rattle.std.proofs.lemmas.Bool.{cases_eq, cases_lt, both_ways}
-use Rattle.helios_model.specs.declared.ids.TxnId.{TxnId}
 use Rattle.helios_model.specs.declared.records.Record.{Record}
 use Rattle.helios_model.specs.declared.records.Record.TheVariants.{Prepare, Commit}
 use Rattle.helios_model.specs.declared.records.CommitEvent.{CommitEvent}
 use Rattle.helios_model.specs.Transactions.{Transaction, conflict}
 use Rattle.helios_model.specs.Plans.{PlanData, IsAccepted, count_of, rtt, latency}
 use Rattle.helios_model.specs.Offset.{IsWithin}
-use Rattle.helios_model.specs.Log.{origin, own_time, ends, finished, prepares}
+use Rattle.helios_model.specs.Log.{origin, ends, finished, prepares}
 use Rattle.helios_model.specs.Sequences.{Mem}
 use Rattle.protocol_laws.specs.Order.{IsClearBehind, IsLawful}
 use Rattle.protocol_laws.specs.Clusters.{Cluster, Honest}
@@ -16,7 +16,7 @@ use Rattle.protocol_laws.specs.SmallSteps.{Commits}
 use Rattle.protocol_laws.specs.LogLaws.{LogLaws}
 use Rattle.protocol_laws.specs.Reach.{Reach}
 use Rattle.protocol_laws.specs.ClusterHistories.{IsHistory}
-use Rattle.protocol_laws.proofs.Lists.{any_from, some_of, contains_cases, contains_here}
+use Rattle.protocol_laws.proofs.Lists.{any_from, some_of, contains_cases}
 use Rattle.protocol_laws.proofs.Ids.{same_id_itself}
 use Rattle.protocol_laws.proofs.Sequences.{mem_from_contains, contains_from_mem}
 use Rattle.protocol_laws.proofs.KnownRecords.{home, known_here}
@@ -26,7 +26,7 @@ use Rattle.protocol_laws.proofs.Fits.{conflict_back}
 use Rattle.protocol_laws.proofs.Cuts.{contains_cut}
 use Rattle.protocol_laws.proofs.Endings.{prepare_found, one_in_log}
 use Rattle.protocol_laws.proofs.ConflictOrder.{own_later_ends}
-use Rattle.protocol_laws.proofs.LogEnds.{IsPreparedBefore, ended_origin, prepared_before, same_end}
+use Rattle.protocol_laws.proofs.LogEnds.{ended_origin, same_end}
 use Rattle.protocol_laws.proofs.Growth.{IsPrepared, finish_prepared}
 use Rattle.protocol_laws.proofs.Reaches.{waited_within}
 use Rattle.protocol_laws.proofs.HistoryLinks.{event_home, unended_never}

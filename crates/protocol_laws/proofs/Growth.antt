@@ -1,20 +1,20 @@
-use Rattle.std.proofs.Common.{◌≡◌, ◌≢◌, ◌∙◌, ap, refl, sym, subst, ℕ, ◌+◌, ◌<◌, ◌≤◌, max, true, false, ◌⊎◌, inl, inr, Option, Some, None, option_map, is_some, List, [], ◌∷◌, ◌++◌, filter, filter_map, All, Contains, arith, eq-eqb, ne_eqb}
+-- What each small step adds to the log of its site and to the history.
+use Rattle.std.proofs.Common.{◌≡◌, ◌≢◌, ◌∙◌, ap, refl, sym, subst, ℕ, ◌+◌, ◌<◌, ◌≤◌, max, false, ◌⊎◌, inl, inr, Option, Some, None, option_map, is_some, List, [], ◌∷◌, ◌++◌, filter, filter_map, All, Contains, arith, eq-eqb, ne_eqb}
 use Rattle.std.specs.List.{cons_option}
 use Rattle.std.proofs.lemmas.List.{append-nil}
 use Rattle.std.proofs.lemmas.List.Elements.{All-nil, All-cons, All-weaker, All-contains}
 use Rattle.std.proofs.lemmas.Bool.{cases_eq, cond-true}
-use Rattle.helios_model.specs.declared.ids.TxnId.{TxnId}
 use Rattle.helios_model.specs.declared.records.Record.{Record}
 use Rattle.helios_model.specs.declared.records.Record.TheVariants.{Prepare, Commit, Abort}
 use Rattle.helios_model.specs.declared.records.CommitEvent.{CommitEvent}
 use Rattle.helios_model.specs.Ids.{same_id}
 use Rattle.helios_model.specs.Transactions.{Transaction}
 use Rattle.helios_model.specs.Plans.{PlanData, count_of}
-use Rattle.helios_model.specs.Log.{origin, own_time, finished, prepares, prepare_of, unfinished, event_at, commit_in}
+use Rattle.helios_model.specs.Log.{origin, own_time, finished, prepares, prepare_of, event_at, commit_in}
 use Rattle.helios_model.specs.Exchange.{Intake}
 use Rattle.helios_model.specs.World.{is_own_commit}
 use Rattle.protocol_laws.specs.Shapes.{Rises}
-use Rattle.helios_model.specs.Sequences.{Mem, Rising, of}
+use Rattle.helios_model.specs.Sequences.{Rising, of}
 use Rattle.protocol_laws.specs.Order.{IsNew}
 use Rattle.protocol_laws.specs.Clusters.{Letter, Cluster, HonestLetter, Honest}
 use Rattle.protocol_laws.specs.SmallSteps.{Moves, OwnMoves, Begins, Commits, taken, Takes, Sends}
@@ -29,7 +29,7 @@ use Rattle.protocol_laws.proofs.OneMore.{prepare_of_grows, unfinished_is, prepar
 use Rattle.protocol_laws.proofs.PoolSteps.{found_itself}
 use Rattle.protocol_laws.proofs.Cuts.{pairs_from_cuts}
 use Rattle.protocol_laws.proofs.LogSteps.{laws_commit, laws_begin}
-use Rattle.protocol_laws.proofs.Intakes.{IsBelow, IsAbortAbove, IsTakenIn, HasTaken, IsAhead, IsTaking, ahead_new, takes_all}
+use Rattle.protocol_laws.proofs.Intakes.{IsBelow, IsTakenIn, HasTakenIn, IsAhead, IsTaking, ahead_new, takes_all}
 
 -- an own record is above the site's clock
 abbrev pub IsFresh : Cluster → ℕ → Record → Type 0
@@ -191,7 +191,7 @@ module _ (plan : PlanData) (w v : Cluster) (s : ℕ) (m : Letter) (h : Honest w)
         (contains_from_mem (w.log (origin r)) r (letter_home w m honest_letter r (mem_from_contains m.records r there)).there));
   }
 
-  pub took : HasTaken s m.records before_it (taken w s m)
+  pub took : HasTakenIn s m.records before_it (taken w s m)
   took = takes_all s (w.tab s s) before_it m.records taking
 
   fresh_of : (r : Record) → IsTakenIn s (w.tab s s s) m.records r → IsFresh w s r

@@ -1,6 +1,7 @@
-use Rattle.std.proofs.Common.{◌≡◌, ◌≢◌, ◌∙◌, ap, refl, sym, subst, ℕ, ◌<◌, true, false, ◌⊎◌, inl, inr, Option, Some, None, option_map, is_some, eq-eqb, eqb-true, ne_eqb, List, [], ◌∷◌, ◌++◌, get_or, filter, filter_map, All, Contains}
+-- The history and the logs tell of the same commits.
+use Rattle.std.proofs.Common.{◌≡◌, ◌≢◌, ◌∙◌, ap, refl, sym, subst, ℕ, ◌<◌, true, false, ◌⊎◌, inl, inr, Some, option_map, is_some, eq-eqb, eqb-true, ne_eqb, List, ◌∷◌, ◌++◌, get_or, filter, filter_map, All, Contains}
 use Rattle.std.proofs.lemmas.List.{append-nil}
-use Rattle.std.proofs.lemmas.List.Elements.{All-append, All-weaker, All-contains, filter-append, filter_passes, Contains-append_left}
+use Rattle.std.proofs.lemmas.List.Elements.{All-append, All-contains, filter-append, filter_passes, Contains-append_left}
 use Rattle.std.proofs.lemmas.Bool.{cases_eq, both_ways}
 use Rattle.helios_model.specs.declared.ids.TxnId.{TxnId}
 use Rattle.helios_model.specs.declared.ids.Version.{Version}
@@ -8,10 +9,9 @@ use Rattle.helios_model.specs.declared.ids.Version.TheVariants.{Initial, Of}
 use Rattle.helios_model.specs.declared.records.Record.{Record}
 use Rattle.helios_model.specs.declared.records.Record.TheVariants.{Prepare, Commit, Abort}
 use Rattle.helios_model.specs.declared.records.CommitEvent.{CommitEvent}
-use Rattle.helios_model.specs.Ids.{same_id}
 use Rattle.helios_model.specs.Transactions.{Transaction}
 use Rattle.helios_model.specs.Plans.{PlanData, count_of}
-use Rattle.helios_model.specs.Log.{origin, own_time, ends, finished, prepare_in, prepares, prepare_of, event_at, commit_in, commits, current}
+use Rattle.helios_model.specs.Log.{ends, finished, prepares, prepare_of, event_at, commit_in, commits, current}
 use Rattle.helios_model.specs.NamedAbort.{IsVersionIn}
 use Rattle.helios_model.specs.World.{is_own_commit}
 use Rattle.helios_model.specs.Sequences.{Mem}
@@ -20,8 +20,8 @@ use Rattle.protocol_laws.specs.Order.{IsAsked}
 use Rattle.protocol_laws.specs.Clusters.{Letter, Cluster, Honest}
 use Rattle.protocol_laws.specs.LogLaws.{LogLaws}
 use Rattle.protocol_laws.specs.ClusterHistories.{IsHistory, NamesEvents}
-use Rattle.protocol_laws.proofs.Lists.{any_from, find_passes, contains_here, contains_filter, contains_from_filter, contains_filter_map, keeps_all}
-use Rattle.protocol_laws.proofs.Ids.{same_id_is, same_id_of, same_id_itself}
+use Rattle.protocol_laws.proofs.Lists.{any_from, contains_filter, contains_from_filter, contains_filter_map, keeps_all}
+use Rattle.protocol_laws.proofs.Ids.{same_id_of, same_id_itself}
 use Rattle.protocol_laws.proofs.Sequences.{mem_from_contains, contains_from_mem, filter_none}
 use Rattle.protocol_laws.proofs.KnownRecords.{home, letter_home, same_record}
 use Rattle.protocol_laws.proofs.OneMore.{prepare_stands, prepare_listed}
@@ -34,44 +34,52 @@ use Rattle.protocol_laws.proofs.Growth.{Goes}
 
 -- the events of a site stay its own Commits as its log grows
 module _ (plan : PlanData) (w v : Cluster) (s : ℕ) (more : List Record) (events : List CommitEvent) (laws : LogLaws s (w.log s)) (g : Goes plan w v s more events)
-    where
-  events_own : All (λ e. is_own_commit s e ≡ true) events
-  events_own = subst (All (λ e. is_own_commit s e ≡ true)) g.gained (filter_passes (is_own_commit s) (filter_map (commit_in (w.log s ++ more)) more))
+  where
+    events_own : All (λ e. is_own_commit s e ≡ true) events
+    events_own = subst (All (λ e. is_own_commit s e ≡ true)) g.gained (filter_passes (is_own_commit s) (filter_map (commit_in (w.log s ++ more)) more))
 
-  own_here : filter (is_own_commit s) w.history ≡ filter (is_own_commit s) (commits (w.log s)) → filter (is_own_commit s) v.history ≡ filter (is_own_commit s) (commits (v.log s))
-  own_here old =
-      ap (filter (is_own_commit s)) g.history
-      ∙ filter-append (is_own_commit s) w.history events
-      ∙ ap (λ es. filter (is_own_commit s) w.history ++ es) (keeps_all (is_own_commit s) events events_own ∙ sym g.gained)
-      ∙ ap (λ es. es ++ filter (is_own_commit s) (filter_map (commit_in (w.log s ++ more)) more)) old
-      ∙ sym (filter-append (is_own_commit s) (commits (w.log s)) (filter_map (commit_in (w.log s ++ more)) more))
-      ∙ ap (filter (is_own_commit s)) (sym (commits_grown (w.log s) more laws.pool.backed))
-      ∙ ap (λ log. filter (is_own_commit s) (commits log)) (sym g.log)
+    own_here : filter (is_own_commit s) w.history ≡ filter (is_own_commit s) (commits (w.log s)) → filter (is_own_commit s) v.history ≡ filter (is_own_commit s) (commits (v.log s))
+    own_here old =
+        ap (filter (is_own_commit s)) g.history
+        ∙ filter-append (is_own_commit s) w.history events
+        ∙ ap (λ es. filter (is_own_commit s) w.history ++ es) (keeps_all (is_own_commit s) events events_own ∙ sym g.gained)
+        ∙ ap (λ es. es ++ filter (is_own_commit s) (filter_map (commit_in (w.log s ++ more)) more)) old
+        ∙ sym (filter-append (is_own_commit s) (commits (w.log s)) (filter_map (commit_in (w.log s ++ more)) more))
+        ∙ ap (filter (is_own_commit s)) (sym (commits_grown (w.log s) more laws.pool.backed))
+        ∙ ap (λ log. filter (is_own_commit s) (commits log)) (sym g.log)
 
-  own_elsewhere : (k : ℕ) → k ≢ s → filter (is_own_commit k) w.history ≡ filter (is_own_commit k) (commits (w.log k))
-      → filter (is_own_commit k) v.history ≡ filter (is_own_commit k) (commits (v.log k))
-  own_elsewhere k apart old =
-      ap (filter (is_own_commit k)) g.history
-      ∙ filter-append (is_own_commit k) w.history events
-      ∙ ap (λ es. filter (is_own_commit k) w.history ++ es) (filter_none (is_own_commit k) events (λ e there.
-      ne_eqb e.prepare.id.site k (λ same. apart (sym same ∙ eqb-true e.prepare.id.site s
-      (All-contains (λ x. is_own_commit s x ≡ true) events e events_own (contains_from_mem events e there))))))
-      ∙ append-nil (filter (is_own_commit k) w.history)
-      ∙ old
-      ∙ ap (λ log. filter (is_own_commit k) (commits log)) (sym (g.other_log k apart))
+    own_elsewhere : (k : ℕ) → k ≢ s → filter (is_own_commit k) w.history ≡ filter (is_own_commit k) (commits (w.log k))
+        → filter (is_own_commit k) v.history ≡ filter (is_own_commit k) (commits (v.log k))
+    own_elsewhere k apart old =
+        ap (filter (is_own_commit k)) g.history
+        ∙ filter-append (is_own_commit k) w.history events
+        ∙ ap (λ es. filter (is_own_commit k) w.history ++ es) (filter_none (is_own_commit k) events (λ e there.
+        ne_eqb e.prepare.id.site k (λ same. apart (sym same ∙ eqb-true e.prepare.id.site s
+        (All-contains (λ x. is_own_commit s x ≡ true) events e events_own (contains_from_mem events e there))))))
+        ∙ append-nil (filter (is_own_commit k) w.history)
+        ∙ old
+        ∙ ap (λ log. filter (is_own_commit k) (commits log)) (sym (g.other_log k apart))
 
-  pub own_events_go : (k : ℕ) → filter (is_own_commit k) w.history ≡ filter (is_own_commit k) (commits (w.log k))
-      → filter (is_own_commit k) v.history ≡ filter (is_own_commit k) (commits (v.log k))
-  own_events_go k old = by_site (cases_eq k s)
-    where
-      by_site : (k ≡ s) ⊎ (k ≡ s → ⊥) → filter (is_own_commit k) v.history ≡ filter (is_own_commit k) (commits (v.log k))
-      by_site (inl same) = subst (λ i. filter (is_own_commit i) v.history ≡ filter (is_own_commit i) (commits (v.log i))) (sym same)
-          (own_here (subst (λ i. filter (is_own_commit i) w.history ≡ filter (is_own_commit i) (commits (w.log i))) same old))
-      by_site (inr apart) = own_elsewhere k apart old
+    pub own_events_go : (k : ℕ) → filter (is_own_commit k) w.history ≡ filter (is_own_commit k) (commits (w.log k))
+        → filter (is_own_commit k) v.history ≡ filter (is_own_commit k) (commits (v.log k))
+    own_events_go k old = by_site (cases_eq k s)
+      where
+        by_site : (k ≡ s) ⊎ (k ≡ s → ⊥) → filter (is_own_commit k) v.history ≡ filter (is_own_commit k) (commits (v.log k))
+        by_site (inl same) = subst (λ i. filter (is_own_commit i) v.history ≡ filter (is_own_commit i) (commits (v.log i))) (sym same)
+            (own_here (subst (λ i. filter (is_own_commit i) w.history ≡ filter (is_own_commit i) (commits (w.log i))) same old))
+        by_site (inr apart) = own_elsewhere k apart old
 
-  pub sites_go : All (λ e. e.prepare.id.site < count_of plan) w.history → All (λ e. e.prepare.id.site < count_of plan) v.history
-  sites_go old = subst (All (λ e. e.prepare.id.site < count_of plan)) (sym g.history)
-      (All-append (λ e. e.prepare.id.site < count_of plan) w.history events old g.placed)
+    pub sites_go : All (λ e. e.prepare.id.site < count_of plan) w.history → All (λ e. e.prepare.id.site < count_of plan) v.history
+    sites_go old = subst (All (λ e. e.prepare.id.site < count_of plan)) (sym g.history)
+        (All-append (λ e. e.prepare.id.site < count_of plan) w.history events old g.placed)
+
+-- two Prepares of one id in any two logs are the same
+pub same_prepare : (w : Cluster) → Honest w → (i j : ℕ) (p q : Transaction) → Contains (prepares (w.log i)) p → Contains (prepares (w.log j)) q → p.id ≡ q.id → p ≡ q
+same_prepare w h i j p q at_p at_q same =
+    let one : Prepare p ≡ Prepare q =
+    same_record w h i j (Prepare p) (Prepare q) (mem_from_contains (w.log i) (Prepare p) (prepare_stands (w.log i) p at_p))
+    (mem_from_contains (w.log j) (Prepare q) (prepare_stands (w.log j) q at_q)) (ap (λ x. x.site) same) (ap (λ x. x.time) same) in
+    cc
 
 -- a Commit of a log, with the event that it is
 pub record IsEventIn (w : Cluster) (i : ℕ) (id : TxnId) (time : ℕ) : Type 0 where
@@ -90,14 +98,6 @@ module _ (plan : PlanData) (w : Cluster) (h : Honest w) (laws : (k : ℕ) → Lo
       let moved : Contains (filter (is_own_commit e.prepare.id.site) (commits (w.log e.prepare.id.site))) e =
       subst (λ es. Contains es e) (history.own e.prepare.id.site) own in
       event_of (w.log e.prepare.id.site) e (contains_from_filter (is_own_commit e.prepare.id.site) (commits (w.log e.prepare.id.site)) e moved).0
-
-  -- a Prepare of an id that has one at home is that one
-  pub same_prepare : (i j : ℕ) (p q : Transaction) → Contains (prepares (w.log i)) p → Contains (prepares (w.log j)) q → p.id ≡ q.id → p ≡ q
-  same_prepare i j p q at_p at_q same =
-      let one : Prepare p ≡ Prepare q =
-      same_record w h i j (Prepare p) (Prepare q) (mem_from_contains (w.log i) (Prepare p) (prepare_stands (w.log i) p at_p))
-      (mem_from_contains (w.log j) (Prepare q) (prepare_stands (w.log j) q at_q)) (ap (λ x. x.site) same) (ap (λ x. x.time) same) in
-      cc
 
   -- a Commit in any log is that of an event of the history, and its Prepare is in that log too
   pub event_of_commit : (i : ℕ) (id : TxnId) (time : ℕ) → Contains (w.log i) (Commit id time) → IsEventIn w i id time
@@ -118,7 +118,7 @@ module _ (plan : PlanData) (w : Cluster) (h : Honest w) (laws : (k : ℕ) → Lo
             (subst (λ es. Contains es (event_at time found.0)) (sym (history.own id.site)) kept)).0;
         named = found.3;
         timed = refl;
-        prepared = subst (λ p. Contains (prepares (w.log i)) p) (same_prepare i id.site local.0 found.0 local.2 found.2 (local.3 ∙ sym found.3)) local.2;
+        prepared = subst (λ p. Contains (prepares (w.log i)) p) (same_prepare w h i id.site local.0 found.0 local.2 found.2 (local.3 ∙ sym found.3)) local.2;
       }
 
   -- what is committed in a log is an event of the history
@@ -137,7 +137,7 @@ module _ (plan : PlanData) (w : Cluster) (h : Honest w) (laws : (k : ℕ) → Lo
       let backed : is_some (prepare_of (w.log i) e.prepare.id) ≡ true =
       All-contains (IsBacked (w.log i)) (w.log i) (Commit e.prepare.id e.time) (laws i).pool.backed there in
       let found = prepare_found (w.log i) e.prepare.id backed in
-      let one : found.0 ≡ e.prepare = same_prepare i e.prepare.id.site found.0 e.prepare found.2 (event_home e in_history).prepared found.3 in
+      let one : found.0 ≡ e.prepare = same_prepare w h i e.prepare.id.site found.0 e.prepare found.2 (event_home e in_history).prepared found.3 in
       contains_filter_map (commit_in (w.log i)) (w.log i) (Commit e.prepare.id e.time) e there
       (ap (option_map (event_at e.time)) (found.1 ∙ ap Some one))
 

@@ -1,7 +1,7 @@
 -- Each input of a site is a chain of small steps: a request that is taken, what commits behind it, a message that is sent, and
 -- one that comes.
 use Rattle.std.proofs.Common.{◌≡◌, ◌≢◌, ◌∙◌, ap, refl, sym, subst, ℕ, ◌+◌, ◌*◌, ◌<◌, ◌≤◌, Bool, true, false, not, ◌&&◌, ◌||◌, ◌⊎◌, inl, inr, if◌then◌else◌, nat_eq, nat_le, max, Option, Some, None, option_map, List, [], ◌∷◌, ◌++◌, append_assoc, length, get_or, filter, fold, map, All, AllPairs, Contains, MatchOption, arith, eqb-true}
-use Rattle.std.specs.List.{cons_option, list_all, range_with_len}
+use Rattle.std.specs.List.{cons_option, range_with_len}
 use Rattle.std.specs.Option.{option_or}
 use Rattle.std.proofs.lemmas.List.{append-nil, get_or-set_other}
 use Rattle.std.proofs.lemmas.List.Elements.{All-head, All-tail, All-weaker}

@@ -1,4 +1,5 @@
-use Rattle.std.proofs.Common.{◌≡◌, ◌≢◌, ◌∙◌, ap, refl, sym, subst, ℕ, ◌+◌, ◌<◌, ◌≤◌, Bool, true, false, not, ◌||◌, ◌⊎◌, inl, inr, nat_eq, nat_le, Some, is_some, List, [], ◌∷◌, ◌++◌, append_assoc, get_or, map, filter, fold, All, AllPairs, Contains, arith, eqb-true, eq-eqb}
+-- The laws of one log hold again once a site has taken a message's records in, whoever sent them.
+use Rattle.std.proofs.Common.{◌≡◌, ◌≢◌, ◌∙◌, ap, refl, sym, subst, ℕ, ◌+◌, ◌<◌, ◌≤◌, true, false, not, ◌⊎◌, inl, inr, nat_eq, nat_le, Some, is_some, List, [], ◌∷◌, ◌++◌, append_assoc, get_or, map, filter, fold, All, AllPairs, Contains, arith, eqb-true, eq-eqb}
 use Rattle.std.proofs.lemmas.List.{append-nil}
 use Rattle.std.proofs.lemmas.List.Elements.{All-nil, All-cons, All-head, All-tail, All-push, All-append, All-weaker, All-contains, Contains-append_left, Contains-push, Contains-push_cases}
 use Rattle.std.proofs.lemmas.List.Kept.{AllPairs-filter}
@@ -9,7 +10,7 @@ use Rattle.helios_model.specs.declared.records.Record.TheVariants.{Prepare, Comm
 use Rattle.helios_model.specs.Ids.{same_id}
 use Rattle.helios_model.specs.Transactions.{Transaction, conflict}
 use Rattle.helios_model.specs.Log.{origin, own_time, ends, finished, prepares, prepare_of, unfinished, is_own}
-use Rattle.helios_model.specs.Exchange.{Intake, with_taken, is_passed, is_unfinished, clashing, abort_one, take_prepare, take_end, take_new, take_one, take_all}
+use Rattle.helios_model.specs.Exchange.{Intake, with_taken, is_passed, is_unfinished, abort_one, take_prepare, take_new, take_one, take_all}
 use Rattle.protocol_laws.specs.Shapes.{Rises}
 use Rattle.protocol_laws.specs.Order.{IsNew}
 use Rattle.protocol_laws.specs.LogLaws.{EndsLater, LogLaws}
@@ -149,7 +150,7 @@ abbrev pub IsTakenIn : ℕ → ℕ → List Record → Record → Type 0
 IsTakenIn site low records x = (Contains records x × (origin x ≢ site)) ⊎ IsAbortAbove site low x
 
 -- a log took records in, and the laws hold of it
-pub record HasTaken (site : ℕ) (records : List Record) (a b : Intake) : Type 0 where
+pub record HasTakenIn (site : ℕ) (records : List Record) (a b : Intake) : Type 0 where
   pub more : List Record
   pub grown : b.log ≡ a.log ++ more
   pub clock : a.clock ≤ b.clock
@@ -178,7 +179,7 @@ ahead_new log q h = all_from (λ p. same_id p.id q.id ≡ false) (prepares log) 
     omega arith))
 
 -- nothing is taken
-taken_nothing : (site : ℕ) (row : ℕ → ℕ) (a : Intake) (r : Record) (rs : List Record) → IsTaking site row a (r ∷ rs) → HasTaken site (r ∷ []) a a
+taken_nothing : (site : ℕ) (row : ℕ → ℕ) (a : Intake) (r : Record) (rs : List Record) → IsTaking site row a (r ∷ rs) → HasTakenIn site (r ∷ []) a a
 taken_nothing site row a r rs h = record {
   more = [];
   grown = sym (append-nil a.log);
@@ -193,7 +194,7 @@ own_with site clock log r foreign own = All-push (IsBelow site clock) log r own 
 
 -- another site's record is taken alone
 taken_alone : (site : ℕ) (a : Intake) (r : Record) → origin r ≢ site → All (IsBelow site a.clock) a.log → LogLaws site (a.log ++ r ∷ [])
-    → HasTaken site (r ∷ []) a (with_taken a r)
+    → HasTakenIn site (r ∷ []) a (with_taken a r)
 taken_alone site a r foreign own laws = record {
   more = r ∷ [];
   grown = refl;
@@ -213,7 +214,7 @@ unfinished_found site log id h wanted =
     (found.0, subst (λ x. prepare_of log x ≡ Some found.0) named (found_itself log found.0 h.pool.ids parts.0), ap (finished log) (sym named) ∙ parts.1)
 
 prepare_taken : (site : ℕ) (a : Intake) (q : Transaction) → q.id.site ≢ site → LogLaws site a.log → All (IsBelow site a.clock) a.log → IsNew a.log q.id
-    → HasTaken site (Prepare q ∷ []) a (take_prepare site a q)
+    → HasTakenIn site (Prepare q ∷ []) a (take_prepare site a q)
 prepare_taken site a q foreign laws own new = joined (aborts_go site q (with_taken a (Prepare q)) clashes start)
   where
     clashes : List Transaction
@@ -253,7 +254,7 @@ prepare_taken site a q foreign laws own new = joined (aborts_go site q (with_tak
       own = own_with site a.clock a.log (Prepare q) foreign own;
     }
 
-    joined : HasAborted site (with_taken a (Prepare q)) (take_prepare site a q) → HasTaken site (Prepare q ∷ []) a (take_prepare site a q)
+    joined : HasAborted site (with_taken a (Prepare q)) (take_prepare site a q) → HasTakenIn site (Prepare q ∷ []) a (take_prepare site a q)
     joined on = record {
       more = Prepare q ∷ on.more;
       grown = on.grown ∙ append_assoc a.log (Prepare q ∷ []) on.more;
@@ -265,18 +266,18 @@ prepare_taken site a q foreign laws own new = joined (aborts_go site q (with_tak
     }
 
 new_taken : (site : ℕ) (row : ℕ → ℕ) (a : Intake) (r : Record) (rs : List Record) → IsTaking site row a (r ∷ rs) → origin r ≢ site → row (origin r) < own_time r
-    → HasTaken site (r ∷ []) a (take_new site a r)
+    → HasTakenIn site (r ∷ []) a (take_new site a r)
 new_taken site row a (Prepare q) rs h foreign above =
     prepare_taken site a q foreign h.laws h.own
     (ahead_new a.log q (All-head (IsAhead site row a.log) (Prepare q) rs h.ahead foreign above))
 new_taken site row a (Commit id time) rs h foreign above =
-    cond_both (is_unfinished a.log id) (with_taken a (Commit id time)) a (HasTaken site (Commit id time ∷ []) a)
+    cond_both (is_unfinished a.log id) (with_taken a (Commit id time)) a (HasTakenIn site (Commit id time ∷ []) a)
     (λ wanted. let found = unfinished_found site a.log id h.laws wanted in
     taken_alone site a (Commit id time) foreign h.own
     (laws_commit site a.log id time found.0 h.laws found.1 found.2 (All-head EndsLater (Commit id time) rs h.timed)))
     (λ unwanted. taken_nothing site row a (Commit id time) rs h)
 new_taken site row a (Abort id time cause) rs h foreign above =
-    cond_both (is_unfinished a.log id) (with_taken a (Abort id time cause)) a (HasTaken site (Abort id time cause ∷ []) a)
+    cond_both (is_unfinished a.log id) (with_taken a (Abort id time cause)) a (HasTakenIn site (Abort id time cause ∷ []) a)
     (λ wanted. let found = unfinished_found site a.log id h.laws wanted in
     taken_alone site a (Abort id time cause) foreign h.own
     (laws_whole site (λ p. false) (a.log ++ Abort id time cause ∷ [])
@@ -286,14 +287,14 @@ new_taken site row a (Abort id time cause) rs h foreign above =
     (λ unwanted. taken_nothing site row a (Abort id time cause) rs h)
 
 record_taken : (site : ℕ) (row : ℕ → ℕ) (a : Intake) (r : Record) (rs : List Record) → IsTaking site row a (r ∷ rs)
-    → HasTaken site (r ∷ []) a (take_one site row a r)
+    → HasTakenIn site (r ∷ []) a (take_one site row a r)
 record_taken site row a r rs h =
-    cond_both (is_passed site row r) a (take_new site a r) (HasTaken site (r ∷ []) a) (λ passed. taken_nothing site row a r rs h)
+    cond_both (is_passed site row r) a (take_new site a r) (HasTakenIn site (r ∷ []) a) (λ passed. taken_nothing site row a r rs h)
     (λ kept. let parts = or_parts (nat_eq (origin r) site) (nat_le (own_time r) (row (origin r))) kept in
     new_taken site row a r rs h (eqb-false (origin r) site parts.0) (leb-false (own_time r) (row (origin r)) parts.1))
 
 -- after a record was taken the others are still to be taken
-taking_on : (site : ℕ) (row : ℕ → ℕ) (a b : Intake) (r : Record) (rs : List Record) → IsTaking site row a (r ∷ rs) → HasTaken site (r ∷ []) a b
+taking_on : (site : ℕ) (row : ℕ → ℕ) (a b : Intake) (r : Record) (rs : List Record) → IsTaking site row a (r ∷ rs) → HasTakenIn site (r ∷ []) a b
     → IsTaking site row b rs
 taking_on site row a b r rs h on = record {
   laws = on.laws;
@@ -321,7 +322,7 @@ taking_on site row a b r rs h on = record {
         (All-weaker (IsTakenIn site a.clock (r ∷ [])) (λ x. origin x ≡ origin y → own_time x < own_time y) (λ x. by_new y x foreign later) on.more on.new))
 
 -- the laws hold at the end of the loop, whatever the records are: they rise, end later than they begin, and come after those that are there
-pub takes_all : (site : ℕ) (row : ℕ → ℕ) (a : Intake) (rs : List Record) → IsTaking site row a rs → HasTaken site rs a (take_all site row a rs)
+pub takes_all : (site : ℕ) (row : ℕ → ℕ) (a : Intake) (rs : List Record) → IsTaking site row a rs → HasTakenIn site rs a (take_all site row a rs)
 takes_all site row a [] h = record {
   more = [];
   grown = sym (append-nil a.log);
@@ -346,8 +347,8 @@ takes_all site row a (r ∷ rs) h =
     of_rest high x le (inl taken) = inl (contains_later r rs x taken.0, taken.1)
     of_rest high x le (inr above) = inr (abort_above_lower site a.clock high x le above)
 
-    joined : HasTaken site (r ∷ []) a (take_one site row a r) → HasTaken site rs (take_one site row a r) (take_all site row (take_one site row a r) rs)
-        → HasTaken site (r ∷ rs) a (take_all site row (take_one site row a r) rs)
+    joined : HasTakenIn site (r ∷ []) a (take_one site row a r) → HasTakenIn site rs (take_one site row a r) (take_all site row (take_one site row a r) rs)
+        → HasTakenIn site (r ∷ rs) a (take_all site row (take_one site row a r) rs)
     joined first second = record {
       more = first.more ++ second.more;
       grown = second.grown ∙ ap (λ log. log ++ second.more) first.grown ∙ append_assoc a.log first.more second.more;

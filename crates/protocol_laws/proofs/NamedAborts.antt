@@ -1,9 +1,7 @@
-use Rattle.std.proofs.Common.{◌≡◌, ◌∙◌, ap, refl, sym, subst, ℕ, List, ◌∷◌, ◌++◌, Contains}
-use Rattle.helios_model.specs.declared.ids.TxnId.{TxnId}
+-- Each Abort names a transaction of another site that conflicts.
+use Rattle.std.proofs.Common.{◌≡◌, ap, refl, subst, ℕ, List, ◌∷◌, ◌++◌}
 use Rattle.helios_model.specs.declared.records.Record.{Record}
 use Rattle.helios_model.specs.declared.records.Record.TheVariants.{Prepare, Abort}
-use Rattle.helios_model.specs.Transactions.{Transaction}
-use Rattle.helios_model.specs.Log.{prepares}
 use Rattle.helios_model.specs.Sequences.{Mem, Before}
 use Rattle.protocol_laws.specs.Clusters.{Cluster, Honest}
 use Rattle.protocol_laws.specs.LogLaws.{IsCaused, LogLaws}

@@ -1,8 +1,9 @@
-use Rattle.std.proofs.Common.{◌≡◌, ◌∙◌, ap, refl, sym, subst, ℕ, ◌<◌, true, false, ◌⊎◌, inl, inr, Option, Some, None, List, [], ◌∷◌, fold, filter, filter_map, All, AllPairs, Contains, arith}
+-- Lists with the same elements in one order, and what they make of a key's version.
+use Rattle.std.proofs.Common.{◌≡◌, ◌∙◌, ap, refl, sym, subst, ℕ, ◌<◌, true, false, ◌⊎◌, inl, inr, Option, Some, None, List, [], ◌∷◌, fold, filter, filter_map, AllPairs, Contains, arith}
 use Rattle.std.specs.List.{cons_option}
 use Rattle.std.proofs.lemmas.List.Elements.{All-contains}
 use Rattle.std.proofs.lemmas.List.Kept.{AllPairs-cons}
-use Rattle.std.proofs.lemmas.Bool.{cases_Bool, cond-true, cond-false}
+use Rattle.std.proofs.lemmas.Bool.{cases_Bool, cond-false}
 use Rattle.helios_model.specs.declared.ids.Version.{Version}
 use Rattle.helios_model.specs.declared.ids.Version.TheVariants.{Of}
 use Rattle.helios_model.specs.declared.records.Record.{Record}
@@ -12,7 +13,7 @@ use Rattle.helios_model.specs.Log.{origin, own_time, version_after}
 use Rattle.helios_model.specs.Sequences.{Mem, Before}
 use Rattle.protocol_laws.specs.Shapes.{Rises}
 use Rattle.protocol_laws.proofs.Lists.{all_from, contains_nothing, contains_here, contains_later, contains_cases, contains_from_filter_map, pairs_head, pairs_tail}
-use Rattle.protocol_laws.proofs.Sequences.{mem_from_contains, contains_from_mem, before_first, before_second, filter_yes, filter_no}
+use Rattle.protocol_laws.proofs.Sequences.{mem_from_contains, contains_from_mem, before_second, filter_yes, filter_no}
 
 -- two lists with the same elements, both in one order, are the same
 pub same_ordered : {X : Type 0} (R : X → X → Type 0) → ((x y : X) → R x y → R y x → ⊥) → (xs ys : List X) → ((x : X) → Contains xs x → Contains ys x)

@@ -1,42 +1,41 @@
-use Rattle.std.proofs.Common.{◌≡◌, ◌≢◌, ◌∙◌, ap, refl, sym, subst, ℕ, ◌+◌, ◌<◌, true, false, List, [], ◌∷◌, ◌++◌, filter, All, AllPairs, Contains, is_some, eq-eqb, Some}
+-- What small steps keep holds in each cluster that they reach.
+use Rattle.std.proofs.Common.{◌≡◌, ◌∙◌, ap, refl, sym, subst, ℕ, ◌+◌, ◌<◌, true, false, List, [], ◌∷◌, filter, All, AllPairs, Contains}
 use Rattle.std.proofs.lemmas.List.{append-nil}
-use Rattle.std.proofs.lemmas.List.Elements.{All-nil, All-contains}
+use Rattle.std.proofs.lemmas.List.Elements.{All-nil}
 use Rattle.helios_model.specs.declared.ids.TxnId.{TxnId}
 use Rattle.helios_model.specs.declared.records.Record.{Record}
 use Rattle.helios_model.specs.declared.records.Record.TheVariants.{Prepare, Commit, Abort}
 use Rattle.helios_model.specs.declared.records.CommitEvent.{CommitEvent}
 use Rattle.helios_model.specs.Ids.{same_id}
 use Rattle.helios_model.specs.Transactions.{Transaction, conflict}
-use Rattle.helios_model.specs.Plans.{PlanData, IsAccepted, count_of}
-use Rattle.helios_model.specs.Log.{prepares, unfinished, current, event_at, commits}
+use Rattle.helios_model.specs.Plans.{PlanData, count_of}
+use Rattle.helios_model.specs.Log.{prepares, current, event_at, commits}
 use Rattle.helios_model.specs.Serial.{Follows, IsSerial}
 use Rattle.helios_model.specs.World.{is_own_commit}
 use Rattle.helios_model.specs.Sequences.{Mem, Before}
 use Rattle.protocol_laws.specs.Pool.{IsBacked, IsApart}
-use Rattle.protocol_laws.specs.Order.{OrderLaws, IsLawful}
-use Rattle.protocol_laws.specs.Shapes.{EachBehind}
-use Rattle.protocol_laws.specs.Logs.{IsEnding, EndsPending, FollowsBefore}
-use Rattle.protocol_laws.specs.Clusters.{Letter, Cluster, Honest}
-use Rattle.protocol_laws.specs.SmallSteps.{Begins, Commits, Takes, SmallStep, IsFirst, IsReached}
+use Rattle.protocol_laws.specs.Order.{OrderLaws}
+use Rattle.protocol_laws.specs.Clusters.{Cluster, Honest}
+use Rattle.protocol_laws.specs.SmallSteps.{Commits, SmallStep, IsFirst}
 use Rattle.protocol_laws.specs.SmallSteps.SmallStep.{Tick, Begin, Finish, Take, Send}
 use Rattle.protocol_laws.specs.SmallSteps.IsReached.{Begun, Gone}
 use Rattle.protocol_laws.specs.LogLaws.{EndsLater, LogLaws}
-use Rattle.protocol_laws.specs.Reach.{HasWaited, Reach}
-use Rattle.protocol_laws.specs.ClusterHistories.{IsHistory, commit_of, IsOrdered}
+use Rattle.protocol_laws.specs.Reach.{HasWaited}
+use Rattle.protocol_laws.specs.ClusterHistories.{commit_of}
 use Rattle.protocol_laws.specs.Knowledge.{EachClusterIsHonest, EachEndIsTaken}
-use Rattle.protocol_laws.specs.ReachedClusters.{IsKept, EachClusterIsKept, EndsAreSound, EachEndIsSound, EachConflictIsApart, EachVersionIsCurrent, EachCommitHasSeen, IsCommitOfEvent, EventsAreCommits, EachHistoryIsHonest, EachConflictCameBefore, EachHistoryIsSerial, EachAbortIsNamed}
+use Rattle.protocol_laws.specs.ReachedClusters.{IsKept, EachClusterIsKept, EachEndIsSound, EachIdHasOnePrepare, EachConflictIsApart, EachVersionIsCurrent, EachCommitHasSeen, EventsAreCommits, EachHistoryIsHonest, EachConflictCameBefore, EachHistoryIsSerial, EachAbortIsNamed}
 use Rattle.protocol_laws.proofs.Ids.{same_id_itself}
 use Rattle.protocol_laws.proofs.Sequences.{mem_from_contains, contains_from_mem, before_first}
 use Rattle.protocol_laws.proofs.OneMore.{prepare_listed}
 use Rattle.protocol_laws.proofs.Committed.{IsEventOf}
 use Rattle.protocol_laws.proofs.Cuts.{no_pairs, no_cut}
-use Rattle.protocol_laws.proofs.Endings.{one_in_log, ends_once}
+use Rattle.protocol_laws.proofs.Endings.{one_in_log, ends_once, ends_behind, versions_current}
 use Rattle.protocol_laws.proofs.ConflictOrder.{own_later_ends, own_earlier_ends}
 use Rattle.protocol_laws.proofs.LogEnds.{IsPreparedBefore, prepared_before}
 use Rattle.protocol_laws.proofs.HonestSteps.{honest_first, honest_step, no_end_is_dropped}
 use Rattle.protocol_laws.proofs.Growth.{Goes, tick_goes, send_goes, begin_goes, finish_goes, took, take_goes}
 use Rattle.protocol_laws.proofs.Reaches.{reach_goes, laws_go}
-use Rattle.protocol_laws.proofs.HistoryLinks.{own_events_go, sites_go, IsEventIn, event_home, event_of_commit, aborted_never, versions_named, sent_versions_named}
+use Rattle.protocol_laws.proofs.HistoryLinks.{own_events_go, sites_go, same_prepare, IsEventIn, event_home, event_of_commit, aborted_never, versions_named, sent_versions_named}
 use Rattle.protocol_laws.proofs.Exclusion.{exclusion}
 use Rattle.protocol_laws.proofs.NamedAborts.{aborts_named}
 use Rattle.protocol_laws.proofs.SerialClusters.{ordered_goes, distinct_finish, ordered_finish, serial_finish}
@@ -142,3 +141,84 @@ pub each_end_is_taken : EachEndIsTaken
 each_end_is_taken plan w r =
     let kept : IsKept plan w = each_cluster_is_kept plan w r in
     no_end_is_dropped w kept.honest (λ k. (kept.laws k).order)
+
+pub each_end_is_sound : EachEndIsSound
+each_end_is_sound plan w r k =
+    let laws : LogLaws k (w.log k) = (each_cluster_is_kept plan w r).laws k in
+    record {
+      given_once = laws.pool.ids;
+      behind = ends_behind k (w.log k) laws;
+      once = ends_once k (w.log k) laws.order;
+    }
+
+pub each_id_has_one_prepare : EachIdHasOnePrepare
+each_id_has_one_prepare plan w r i j p q at_p at_q same =
+    same_prepare w (each_cluster_is_kept plan w r).honest i j p q (prepare_listed (w.log i) p (contains_from_mem (w.log i) (Prepare p) at_p))
+    (prepare_listed (w.log j) q (contains_from_mem (w.log j) (Prepare q) at_q)) same
+
+pub each_conflict_is_apart : EachConflictIsApart
+each_conflict_is_apart plan w r k =
+    let order : OrderLaws k (w.log k) = ((each_cluster_is_kept plan w r).laws k).order in
+    record {
+      clear = order.clear;
+      own_later = λ p q. own_later_ends k (w.log k) p q order;
+      own_earlier = λ p q. own_earlier_ends k (w.log k) p q order;
+    }
+
+pub each_version_is_current : EachVersionIsCurrent
+each_version_is_current plan w r k = versions_current k (w.log k) ((each_cluster_is_kept plan w r).laws k).order
+
+pub each_commit_has_seen : EachCommitHasSeen
+each_commit_has_seen plan w r = (each_cluster_is_kept plan w r).reach
+
+-- a Prepare of a log stands before the Commit of its id
+prepared_first : (site : ℕ) (log : List Record) (p : Transaction) (id : TxnId) (time : ℕ) → LogLaws site log → Contains (prepares log) p → p.id ≡ id
+    → Mem (Commit id time) log → Before (Prepare p) (Commit id time) log
+prepared_first site log p id time laws listed named there =
+    let found : IsPreparedBefore log id (Commit id time) = prepared_before site log laws.order.each id (Commit id time) there (same_id_itself id) in
+    let stands : Contains (prepares log) found.prepare =
+    prepare_listed log found.prepare (contains_from_mem log (Prepare found.prepare) (before_first (Prepare found.prepare) (Commit id time) log found.stands)) in
+    let one : found.prepare ≡ p = one_in_log log found.prepare p laws.pool.ids stands listed (found.named ∙ sym named) in
+    subst (λ q. Before (Prepare q) (Commit id time) log) one found.stands
+
+pub events_are_commits : (plan : PlanData) (w : Cluster) → IsKept plan w → EventsAreCommits w
+events_are_commits plan w kept = record {
+  home = λ e there.
+      let here : IsEventOf (w.log e.prepare.id.site) e = event_home plan w kept.honest kept.laws kept.history e there in
+      prepared_first e.prepare.id.site (w.log e.prepare.id.site) e.prepare e.prepare.id e.time (kept.laws e.prepare.id.site) here.prepared refl
+      (mem_from_contains (w.log e.prepare.id.site) (commit_of e) here.committed);
+  commit = λ i id time there.
+      let found : IsEventIn w i id time =
+      event_of_commit plan w kept.honest kept.laws kept.history i id time (contains_from_mem (w.log i) (Commit id time) there) in
+      record {
+        event = found.event;
+        stands = found.stands;
+        named = found.named;
+        timed = found.timed;
+        prepared = prepared_first i (w.log i) found.event.prepare id time (kept.laws i) found.prepared found.named there;
+      };
+  never_aborted = λ i id time cause e there.
+      aborted_never plan w kept.honest kept.laws kept.history i id time cause e (contains_from_mem (w.log i) (Abort id time cause) there);
+  named = λ i p there. versions_named plan w kept.honest kept.laws kept.history i p (contains_from_mem (w.log i) (Prepare p) there);
+  sent = λ m p came there. sent_versions_named plan w kept.honest kept.laws kept.history m p came (contains_from_mem m.records (Prepare p) there);
+}
+
+pub each_history_is_honest : EachHistoryIsHonest
+each_history_is_honest plan w r =
+    let kept : IsKept plan w = each_cluster_is_kept plan w r in
+    (kept.history, events_are_commits plan w kept)
+
+pub each_conflict_came_before : EachConflictCameBefore
+each_conflict_came_before plan w r accepted v s p e low c there conflicts =
+    let kept : IsKept plan w = each_cluster_is_kept plan w r in
+    exclusion plan w v s p e kept.honest kept.laws kept.reach kept.history low c there conflicts accepted
+
+pub each_history_is_serial : EachHistoryIsSerial
+each_history_is_serial plan w r accepted =
+    let kept : IsKept plan w = each_cluster_is_kept plan w r in
+    (kept.serial accepted, kept.ordered accepted)
+
+pub each_abort_is_named : EachAbortIsNamed
+each_abort_is_named plan w r =
+    let kept : IsKept plan w = each_cluster_is_kept plan w r in
+    aborts_named w kept.honest kept.laws

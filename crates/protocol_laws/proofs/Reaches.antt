@@ -1,5 +1,6 @@
-use Rattle.std.proofs.Common.{◌≡◌, ◌≢◌, ◌∙◌, refl, sym, subst, ℕ, ◌+◌, ◌<◌, ◌≤◌, true, ◌⊎◌, inl, inr, List, [], ◌∷◌, ◌++◌, All, Contains, arith}
-use Rattle.std.proofs.lemmas.List.Elements.{All-nil, All-append, All-weaker, All-contains, Contains-append_left, Contains-append_right, Contains-append_cases}
+-- Small steps keep what own Commits have waited for, and which records stand before them.
+use Rattle.std.proofs.Common.{◌≡◌, ◌≢◌, ◌∙◌, sym, subst, ℕ, ◌+◌, ◌<◌, ◌≤◌, true, ◌⊎◌, inl, inr, List, ◌∷◌, ◌++◌, All, Contains, arith}
+use Rattle.std.proofs.lemmas.List.Elements.{All-append, All-weaker, All-contains, Contains-append_left, Contains-append_right, Contains-append_cases}
 use Rattle.std.proofs.lemmas.Bool.{cases_eq, leb-true, le-leb}
 use Rattle.helios_model.specs.declared.ids.TxnId.{TxnId}
 use Rattle.helios_model.specs.declared.records.Record.{Record}
@@ -9,7 +10,6 @@ use Rattle.helios_model.specs.Plans.{PlanData, count_of, rtt, latency}
 use Rattle.helios_model.specs.Offset.{is_past, IsWithin}
 use Rattle.helios_model.specs.Log.{origin, own_time}
 use Rattle.protocol_laws.specs.Clusters.{Cluster, Honest}
-use Rattle.protocol_laws.specs.SmallSteps.{IsFirst}
 use Rattle.helios_model.specs.Sequences.{Mem}
 use Rattle.protocol_laws.specs.LogLaws.{LogLaws}
 use Rattle.protocol_laws.specs.Reach.{HasWaited, HasSeen, Reach}

@@ -1,5 +1,5 @@
 -- Each world that steps reach is, as a cluster, reached by small steps.
-use Rattle.std.proofs.Common.{◌≡◌, ◌≢◌, ◌∙◌, ap, refl, sym, subst, ℕ, ◌+◌, ◌*◌, ◌<◌, ◌≤◌, true, ◌⊎◌, inl, inr, List, [], ◌∷◌, ◌++◌, get_or, length, replicate, filter, filter_map, drop, flat_map, All, Contains, arith}
+use Rattle.std.proofs.Common.{◌≡◌, ◌≢◌, ◌∙◌, ap, refl, sym, subst, ℕ, ◌+◌, ◌*◌, ◌<◌, ◌≤◌, true, ◌⊎◌, inl, inr, List, [], ◌∷◌, ◌++◌, get_or, length, replicate, filter, filter_map, flat_map, All, arith}
 use Rattle.std.proofs.Math.Seq.{drop-append_seam}
 use Rattle.std.proofs.lemmas.List.{append-nil, append_cancel_left, get_or-replicate, get_or_past, length-replicate, map-append}
 use Rattle.std.proofs.lemmas.List.Elements.{All-nil, All-weaker, filter-append}
@@ -7,23 +7,20 @@ use Rattle.std.proofs.lemmas.Bool.{cases_lt}
 use Rattle.helios_model.specs.declared.entries.Entry.{Entry}
 use Rattle.helios_model.specs.declared.entries.Input.{Input}
 use Rattle.helios_model.specs.declared.entries.Input.TheVariants.{Get, Status, Request, Pull, Push}
-use Rattle.helios_model.specs.declared.messages.Message.{Message}
 use Rattle.helios_model.specs.declared.records.Record.{Record}
 use Rattle.helios_model.specs.declared.records.CommitEvent.{CommitEvent}
 use Rattle.helios_model.specs.Plans.{PlanData, count_of}
-use Rattle.helios_model.specs.Grid.{at}
 use Rattle.helios_model.specs.Log.{commit_in, commits}
 use Rattle.helios_model.specs.Sequences.{Mem}
-use Rattle.helios_model.specs.Node.{Node, empty_node, known}
+use Rattle.helios_model.specs.Node.{Node, empty_node}
 use Rattle.helios_model.specs.Step.{after_entries}
 use Rattle.helios_model.specs.World.{World, Ending, Event, IsBatch, IsReleased, MayHappen, MayRun, done, entries_of, first_world, happens, is_own_commit, kept, messages_in, node_of, own_commits, replies, run}
 use Rattle.helios_model.specs.World.Event.{Batch, Restart}
 use Rattle.helios_model.specs.World.Ending.{Done, Kept, Lost}
 use Rattle.protocol_laws.specs.Pool.{IsBacked}
-use Rattle.protocol_laws.specs.Placed.{IsPlaced}
 use Rattle.protocol_laws.specs.Histories.{GrowsTo}
-use Rattle.protocol_laws.specs.Clusters.{Cluster, Letter}
-use Rattle.protocol_laws.specs.SmallSteps.{IsReached, OwnMoves}
+use Rattle.protocol_laws.specs.Clusters.{Letter}
+use Rattle.protocol_laws.specs.SmallSteps.{IsReached}
 use Rattle.protocol_laws.specs.SmallSteps.SmallStep.{Tick}
 use Rattle.protocol_laws.specs.SmallSteps.IsReached.{Begun, Gone}
 use Rattle.protocol_laws.specs.Views.{cluster_of, letter_of, letters_of, table_of, within}

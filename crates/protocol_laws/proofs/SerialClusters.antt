@@ -1,10 +1,9 @@
-use Rattle.std.proofs.Common.{◌≡◌, ◌≢◌, ◌∙◌, ap, refl, sym, subst, ℕ, ◌+◌, ◌<◌, true, false, ◌⊎◌, inl, inr, Option, Some, None, option_map, List, [], ◌∷◌, ◌++◌, length, get_or, fold, filter, All, AllPairs, Contains, arith}
-use Rattle.std.proofs.lemmas.List.Elements.{All-contains, All-contains_itself, Contains-get_or, Contains-append_left}
+-- As a transaction commits, the history stays in order and serial.
+use Rattle.std.proofs.Common.{◌≡◌, ◌∙◌, ap, refl, sym, subst, ℕ, ◌+◌, ◌<◌, true, false, ◌⊎◌, inl, inr, Option, Some, None, option_map, List, [], ◌∷◌, ◌++◌, length, get_or, fold, filter, AllPairs, Contains, arith}
+use Rattle.std.proofs.lemmas.List.Elements.{All-contains, Contains-get_or, Contains-append_left}
 use Rattle.std.proofs.lemmas.List.Kept.{AllPairs-filter}
 use Rattle.std.proofs.lemmas.List.Quantifiers.{all_pairs_push}
 use Rattle.std.proofs.lemmas.Bool.{cases_eq, false_from_ne_true}
-use Rattle.helios_model.specs.declared.ids.TxnId.{TxnId}
-use Rattle.helios_model.specs.declared.ids.Version.{Version}
 use Rattle.helios_model.specs.declared.ids.Version.TheVariants.{Initial}
 use Rattle.helios_model.specs.declared.records.Record.{Record}
 use Rattle.helios_model.specs.declared.records.Record.TheVariants.{Prepare, Commit, Abort}
@@ -12,10 +11,9 @@ use Rattle.helios_model.specs.declared.records.CommitEvent.{CommitEvent}
 use Rattle.helios_model.specs.Ids.{same_id}
 use Rattle.helios_model.specs.Transactions.{Transaction, conflict, writes_key}
 use Rattle.helios_model.specs.Plans.{PlanData, IsAccepted, count_of}
-use Rattle.helios_model.specs.Log.{origin, own_time, finished, prepares, prepare_of, unfinished, event_at, commit_in, commits, version_after, current}
+use Rattle.helios_model.specs.Log.{prepares, prepare_of, unfinished, event_at, commit_in, commits, version_after, current}
 use Rattle.helios_model.specs.Serial.{Follows, IsSerial}
-use Rattle.helios_model.specs.Sequences.{Mem, Before}
-use Rattle.protocol_laws.specs.Shapes.{Rises}
+use Rattle.helios_model.specs.Sequences.{Before}
 use Rattle.protocol_laws.specs.Clusters.{Cluster, Honest}
 use Rattle.protocol_laws.specs.SmallSteps.{Commits}
 use Rattle.protocol_laws.specs.LogLaws.{LogLaws}
@@ -26,7 +24,7 @@ use Rattle.protocol_laws.proofs.Ids.{same_id_is}
 use Rattle.protocol_laws.proofs.Sequences.{mem_from_contains, before_left, before_across}
 use Rattle.protocol_laws.proofs.KnownRecords.{log_rises}
 use Rattle.protocol_laws.proofs.OneMore.{prepare_stands}
-use Rattle.protocol_laws.proofs.Committed.{IsEventOf, event_of}
+use Rattle.protocol_laws.proofs.Committed.{event_of}
 use Rattle.protocol_laws.proofs.Fits.{conflict_of_read, conflict_of_write, conflict_of_writers}
 use Rattle.protocol_laws.proofs.SerialSteps.{serial_one_more}
 use Rattle.protocol_laws.proofs.Cuts.{contains_cut}

@@ -12,7 +12,8 @@ use Rattle.helios_model.specs.Serial.{IsSerial}
 use Rattle.helios_model.specs.Sequences.{Mem, Before}
 use Rattle.protocol_laws.specs.Shapes.{EachBehind}
 use Rattle.protocol_laws.specs.Order.{IsClearBehind}
-use Rattle.protocol_laws.specs.Logs.{EndsPending, aborted, EndsFirst, FollowsBefore}
+use Rattle.helios_model.specs.ConflictOrder.{aborted, EndsFirst}
+use Rattle.protocol_laws.specs.Logs.{EndsPending, FollowsBefore}
 use Rattle.protocol_laws.specs.Clusters.{Letter, Cluster, Honest}
 use Rattle.protocol_laws.specs.SmallSteps.{Commits, IsReached}
 use Rattle.protocol_laws.specs.LogLaws.{LogLaws}
@@ -44,6 +45,10 @@ pub record EndsAreSound (log : List Record) : Type 0 where
 
 abbrev pub EachEndIsSound : Type 0
 EachEndIsSound = InEachCluster (λ plan w. (k : ℕ) → EndsAreSound (w.log k))
+
+-- Prepares of one id in any two logs are the same
+abbrev pub EachIdHasOnePrepare : Type 0
+EachIdHasOnePrepare = InEachCluster (λ plan w. (i j : ℕ) (p q : Transaction) → Mem (Prepare p) (w.log i) → Mem (Prepare q) (w.log j) → p.id ≡ q.id → p ≡ q)
 
 -- no Prepare behind an own unfinished one conflicts with it; and of two that conflict, of which the later one is own, or
 -- the earlier one is own and never aborted, the earlier one is ended before the later one is taken
