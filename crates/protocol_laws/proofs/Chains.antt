@@ -31,6 +31,8 @@ use Rattle.protocol_laws.specs.SmallSteps.IsReached.{Gone}
 use Rattle.protocol_laws.specs.Views.{cover_in, letter_of, table_in, table_of}
 use Rattle.protocol_laws.proofs.Lists.{find_passes}
 use Rattle.protocol_laws.proofs.Sequences.{mem_cases}
+use Rattle.protocol_laws.proofs.Later.{IsLater, later_on, later_same, step_later}
+use Rattle.protocol_laws.proofs.ReachedClusters.{each_cluster_is_kept}
 use Rattle.protocol_laws.proofs.Views.{merged_clock, merged_row, merged_rows, put_here, put_other, within_inside}
 
 -- small steps reach a cluster in which a site is as this node and these letters are sent; all else is as it was in the first
@@ -46,6 +48,7 @@ pub record IsShown (plan : PlanData) (w : Cluster) (n : Node) (letters : List Le
   pub events : List CommitEvent
   pub history : cluster.history ≡ w.history ++ events
   pub own : All (λ e. is_own_commit n.site e ≡ true) events
+  pub later : IsLater w cluster
 
 -- a cluster in which one site's log and times are these
 abbrev moved : Cluster → ℕ → List Record → (ℕ → ℕ → ℕ) → List CommitEvent → Cluster
@@ -178,6 +181,7 @@ module _ (plan : PlanData) (w : Cluster) (n : Node) (letters : List Letter) (pla
     events = shown.events ++ events;
     history = ap (λ l. l ++ events) shown.history ∙ append_assoc w.history shown.events events;
     own = All-append (λ e. is_own_commit n.site e ≡ true) shown.events events shown.own own;
+    later = later_on w u (next log table events) shown.later (step_later plan u (next log table events) (each_cluster_is_kept plan u shown.reached) step);
   }
 
   own_clock : u.tab n.site n.site n.site ≡ clock plan n
@@ -342,6 +346,7 @@ module _ (plan : PlanData) (w : Cluster) (n : Node) (letters : List Letter) (pla
     events = shown.events;
     history = shown.history;
     own = shown.own;
+    later = later_same w u (with_letter to) shown.later (λ i. refl) (λ i. refl);
   }
     where
       by_part : (x : Letter) → Mem x letters ⊎ Mem x (letter to ∷ []) → Mem x u.sent ⊎ (x ≡ letter to)

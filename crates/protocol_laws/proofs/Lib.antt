@@ -42,3 +42,4 @@ pub mod ArrivalSteps
 pub mod NodeRules
 pub mod Ceilings
 pub mod WorldGrowth
+pub mod Later

@@ -31,6 +31,7 @@ use Rattle.protocol_laws.proofs.Worlds.{first_entries, first_journals, journals_
 use Rattle.protocol_laws.proofs.Placed.{node_placed, placed_entries}
 use Rattle.protocol_laws.proofs.NodeRules.{node_steady}
 use Rattle.protocol_laws.proofs.WorldGrowth.{GoesOn, entries_go}
+use Rattle.protocol_laws.proofs.Later.{later_itself}
 use Rattle.protocol_laws.proofs.Views.{within_nothing}
 use Rattle.protocol_laws.proofs.ReachedClusters.{each_cluster_is_kept}
 use Rattle.protocol_laws.proofs.Chains.{IsShown}
@@ -108,6 +109,7 @@ module _ (plan : PlanData) where
         events = [];
         history = sym (append-nil w.history);
         own = All-nil (λ e. is_own_commit (node_of plan w s).site e ≡ true);
+        later = later_itself (cluster_of plan w);
       }
 
   -- a world in which the site's node is as it is shown, and nothing else has changed but what was sent and committed
