@@ -3,7 +3,7 @@ use Rattle.std.proofs.Common.{◌≡◌, ◌≢◌, ◌∙◌, ap, refl, sym, su
 use Rattle.std.proofs.Math.Seq.{drop-append_seam}
 use Rattle.std.proofs.lemmas.List.{append-nil, append_cancel_left, get_or-replicate, get_or_past, length-replicate, map-append}
 use Rattle.std.proofs.lemmas.List.Elements.{All-nil, All-weaker, filter-append}
-use Rattle.std.proofs.lemmas.Bool.{cases_lt}
+use Rattle.std.proofs.lemmas.Bool.{cases_eq, cases_lt}
 use Rattle.helios_model.specs.declared.entries.Entry.{Entry}
 use Rattle.helios_model.specs.declared.entries.Input.{Input}
 use Rattle.helios_model.specs.declared.entries.Input.TheVariants.{Get, Status, Request, Pull, Push}
@@ -31,7 +31,7 @@ use Rattle.protocol_laws.proofs.Worlds.{first_entries, first_journals, journals_
 use Rattle.protocol_laws.proofs.Placed.{node_placed, placed_entries}
 use Rattle.protocol_laws.proofs.NodeRules.{node_steady}
 use Rattle.protocol_laws.proofs.WorldGrowth.{GoesOn, entries_go}
-use Rattle.protocol_laws.proofs.Later.{later_itself}
+use Rattle.protocol_laws.proofs.Later.{IsLater, later_itself, later_on, later_same}
 use Rattle.protocol_laws.proofs.Views.{within_nothing}
 use Rattle.protocol_laws.proofs.ReachedClusters.{each_cluster_is_kept}
 use Rattle.protocol_laws.proofs.Chains.{IsShown}
@@ -92,6 +92,14 @@ released_came plan w (Request ask) h = tt
 released_came plan w (Pull to) h = tt
 released_came plan w (Push m) h = mem_from_contains (letters_of plan w.sent) (letter_of plan m) (contains_map (letter_of plan) w.sent m h)
 
+-- a later world: as a cluster, small steps reach it, and its logs have grown
+pub record IsGone (plan : PlanData) (w v : World) : Type 0 where
+  pub reached : IsReached plan (cluster_of plan v)
+  pub later : IsLater (cluster_of plan w) (cluster_of plan v)
+
+goes_nowhere : (plan : PlanData) (w : World) → IsReached plan (cluster_of plan w) → IsGone plan w w
+goes_nowhere plan w reached = record { reached = reached; later = later_itself (cluster_of plan w) }
+
 module _ (plan : PlanData) where
 
   -- a site of a world, before its batch
@@ -117,24 +125,41 @@ module _ (plan : PlanData) where
       → (shown : IsShown plan (cluster_of plan w) m letters) → node_of plan v s ≡ m
       → ((i : ℕ) → i ≢ s → node_of plan v i ≡ node_of plan w i)
       → ((x : Letter) → Mem x (letters_of plan v.sent) → Mem x letters)
-      → v.history ≡ w.history ++ shown.events → IsReached plan (cluster_of plan v)
-  ended w v s m letters low here shown at_site elsewhere sent history =
-      let logs : shown.cluster.log s ≡ (node_of plan v s).log = ap shown.cluster.log (sym here) ∙ shown.same_log ∙ ap (λ n. n.log) (sym at_site) in
-      Gone shown.reached (Tick s low (record {
-        moves = record {
-          other_log = λ i apart. ap (λ n. n.log) (elsewhere i apart) ∙ sym (shown.other_log i (λ same. apart (same ∙ here)));
-          other_tab = λ i a b apart.
-              ap (λ n. table_of plan n a b) (elsewhere i apart) ∙ sym (shown.other_tab i a b (λ same. apart (same ∙ here)));
-          log = sym logs ∙ sym (append-nil (shown.cluster.log s));
-          tab = λ a b. let same : table_of plan (node_of plan v s) a b ≡ shown.cluster.tab s a b = tabs a b in omega arith;
-          history = history ∙ sym shown.history ∙ sym (append-nil shown.cluster.history);
-        };
-        others = λ a b apart. tabs a b;
-        sent = λ x there. subst (λ l. Mem x l) (sym shown.sent) (sent x there);
-      }))
+      → v.history ≡ w.history ++ shown.events → IsGone plan w v
+  ended w v s m letters low here shown at_site elsewhere sent history = record {
+    reached = Gone shown.reached (Tick s low (record {
+      moves = record {
+        other_log = other_logs;
+        other_tab = other_tabs;
+        log = log_here ∙ sym (append-nil (shown.cluster.log s));
+        tab = λ a b. let same : table_of plan (node_of plan v s) a b ≡ shown.cluster.tab s a b = tab_here a b in omega arith;
+        history = history ∙ sym shown.history ∙ sym (append-nil shown.cluster.history);
+      };
+      others = λ a b apart. tab_here a b;
+      sent = λ x there. subst (λ l. Mem x l) (sym shown.sent) (sent x there);
+    }));
+    later = later_same (cluster_of plan w) shown.cluster (cluster_of plan v) shown.later (λ i. logs i (cases_eq i s)) (λ i. clocks i (cases_eq i s));
+  }
     where
-      tabs : (a b : ℕ) → table_of plan (node_of plan v s) a b ≡ shown.cluster.tab s a b
-      tabs a b = ap (λ n. table_of plan n a b) at_site ∙ sym (shown.same_tab a b) ∙ ap (λ k. shown.cluster.tab k a b) here
+      log_here : (node_of plan v s).log ≡ shown.cluster.log s
+      log_here = ap (λ n. n.log) at_site ∙ sym shown.same_log ∙ ap shown.cluster.log here
+
+      tab_here : (a b : ℕ) → table_of plan (node_of plan v s) a b ≡ shown.cluster.tab s a b
+      tab_here a b = ap (λ n. table_of plan n a b) at_site ∙ sym (shown.same_tab a b) ∙ ap (λ k. shown.cluster.tab k a b) here
+
+      other_logs : (i : ℕ) → i ≢ s → (node_of plan v i).log ≡ shown.cluster.log i
+      other_logs i apart = ap (λ n. n.log) (elsewhere i apart) ∙ sym (shown.other_log i (λ same. apart (same ∙ here)))
+
+      other_tabs : (i a b : ℕ) → i ≢ s → table_of plan (node_of plan v i) a b ≡ shown.cluster.tab i a b
+      other_tabs i a b apart = ap (λ n. table_of plan n a b) (elsewhere i apart) ∙ sym (shown.other_tab i a b (λ same. apart (same ∙ here)))
+
+      logs : (i : ℕ) → (i ≡ s) ⊎ (i ≡ s → ⊥) → (node_of plan v i).log ≡ shown.cluster.log i
+      logs i (inl same) = subst (λ k. (node_of plan v k).log ≡ shown.cluster.log k) (sym same) log_here
+      logs i (inr apart) = other_logs i apart
+
+      clocks : (i : ℕ) → (i ≡ s) ⊎ (i ≡ s → ⊥) → table_of plan (node_of plan v i) i i ≡ shown.cluster.tab i i i
+      clocks i (inl same) = subst (λ k. table_of plan (node_of plan v k) k k ≡ shown.cluster.tab k k k) (sym same) (tab_here s s)
+      clocks i (inr apart) = other_tabs i i i apart
 
   module _ (w : World) (s : ℕ) (entries : List Entry) (ending : Ending) (reached : IsReached plan (cluster_of plan w)) (many : length w.journals ≡ count_of plan)
       (may : IsBatch plan w s entries ending) where
@@ -178,30 +203,36 @@ module _ (plan : PlanData) where
     gained : (kept plan w s entries).history ≡ w.history ++ shown.events
     gained = ap (λ es. w.history ++ es) committed
 
-    pub kept_reached : IsReached plan (cluster_of plan (kept plan w s entries))
-    kept_reached =
+    kept_gone : IsGone plan w (kept plan w s entries)
+    kept_gone =
         ended w (kept plan w s entries) s after letters may.here here shown (kept_here plan w s entries low) (λ i apart. kept_elsewhere plan w s i entries apart)
         (λ x there. mem_left x (letters_of plan w.sent) (letters_of plan (messages_in (replies plan (node_of plan w s) entries))) there)
         gained
 
-    pub done_reached : IsReached plan (cluster_of plan (done plan w s entries))
-    done_reached =
+    done_gone : IsGone plan w (done plan w s entries)
+    done_gone =
         ended w (done plan w s entries) s after letters may.here here shown (kept_here plan w s entries low) (λ i apart. kept_elsewhere plan w s i entries apart)
         (λ x there. subst (λ l. Mem x l) (map-append (letter_of plan) w.sent (messages_in (replies plan (node_of plan w s) entries))) there)
         gained
 
-  pub happens_reached : (w : World) (event : Event) → IsReached plan (cluster_of plan w) → length w.journals ≡ count_of plan → MayHappen plan w event
-      → IsReached plan (cluster_of plan (happens plan w event))
-  happens_reached w (Batch s entries Done) reached many may = done_reached w s entries Done reached many may
-  happens_reached w (Batch s entries Kept) reached many may = kept_reached w s entries Kept reached many may
-  happens_reached w (Batch s entries Lost) reached many may = reached
-  happens_reached w (Restart s) reached many may = reached
+  pub happens_gone : (w : World) (event : Event) → IsReached plan (cluster_of plan w) → length w.journals ≡ count_of plan → MayHappen plan w event
+      → IsGone plan w (happens plan w event)
+  happens_gone w (Batch s entries Done) reached many may = done_gone w s entries Done reached many may
+  happens_gone w (Batch s entries Kept) reached many may = kept_gone w s entries Kept reached many may
+  happens_gone w (Batch s entries Lost) reached many may = goes_nowhere plan w reached
+  happens_gone w (Restart s) reached many may = goes_nowhere plan w reached
 
-  pub run_reached : (w : World) (events : List Event) → IsReached plan (cluster_of plan w) → length w.journals ≡ count_of plan → MayRun plan w events
-      → IsReached plan (cluster_of plan (run plan w events))
-  run_reached w [] reached many may = reached
-  run_reached w (e ∷ es) reached many may =
-      run_reached (happens plan w e) es (happens_reached w e reached many may.0) (journals_stay plan w e ∙ many) may.1
+  pub run_gone : (w : World) (events : List Event) → IsReached plan (cluster_of plan w) → length w.journals ≡ count_of plan → MayRun plan w events
+      → IsGone plan w (run plan w events)
+  run_gone w [] reached many may = goes_nowhere plan w reached
+  run_gone w (e ∷ es) reached many may =
+      let first : IsGone plan w (happens plan w e) = happens_gone w e reached many may.0 in
+      let rest : IsGone plan (happens plan w e) (run plan (happens plan w e) es) =
+      run_gone (happens plan w e) es first.reached (journals_stay plan w e ∙ many) may.1 in
+      record {
+        reached = rest.reached;
+        later = later_on (cluster_of plan w) (cluster_of plan (happens plan w e)) (cluster_of plan (run plan (happens plan w e) es)) first.later rest.later;
+      }
 
   pub simulation : (events : List Event) → MayRun plan (first_world plan) events → IsReached plan (cluster_of plan (run plan (first_world plan) events))
-  simulation events may = run_reached (first_world plan) events (first_reached plan) (first_journals plan) may
+  simulation events may = (run_gone (first_world plan) events (first_reached plan) (first_journals plan) may).reached
