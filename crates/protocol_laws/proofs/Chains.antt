@@ -111,7 +111,7 @@ rises plan n table h a b = by_site (cases_eq a n.site) (cases_eq b n.site)
 one_row : (site : ℕ) (row other : ℕ → ℕ) (a : Intake) (r : Record) → row (origin r) ≡ other (origin r) → take_one site row a r ≡ take_one site other a r
 one_row site row other a r same = ap (λ t. cond (nat_eq (origin r) site || nat_le (own_time r) t) a (take_new site a r)) same
 
-all_rows : (site : ℕ) (row other : ℕ → ℕ) (a : Intake) (rs : List Record) → All (λ r. row (origin r) ≡ other (origin r)) rs
+pub all_rows : (site : ℕ) (row other : ℕ → ℕ) (a : Intake) (rs : List Record) → All (λ r. row (origin r) ≡ other (origin r)) rs
     → take_all site row a rs ≡ take_all site other a rs
 all_rows site row other a [] h = refl
 all_rows site row other a (r ∷ rs) h =

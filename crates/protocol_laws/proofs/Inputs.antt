@@ -137,7 +137,7 @@ silent_either : (o other : Option Reply) → IsSilent o → IsSilent other → I
 silent_either None other first second = second
 silent_either (Some reply) other first second = first
 
-refusal_silent : (n : Node) (ask : Asking) → IsSilent (refusal n ask)
+pub refusal_silent : (n : Node) (ask : Asking) → IsSilent (refusal n ask)
 refusal_silent n ask =
     silent_either (room_refusal n) (option_or (stale_refusal n.log ask) (clash_refusal n.log ask)) (by_room (nat_le most_open (length (own_open n))))
     (silent_either (stale_refusal n.log ask) (clash_refusal n.log ask)
@@ -151,7 +151,7 @@ refusal_silent n ask =
 taken_silent : (log : List Record) (id : TxnId) → message_in (taken_reply log id) ≡ None
 taken_silent log id = cond_both (finished log id) (Committed id) (Prepared id) (λ reply. message_in reply ≡ None) (λ ended. refl) (λ pending. refl)
 
-request_silent : (plan : PlanData) (n : Node) (p : Transaction) (o : Option Reply) → IsSilent o → message_in (unless_refused plan n p o).reply ≡ None
+pub request_silent : (plan : PlanData) (n : Node) (p : Transaction) (o : Option Reply) → IsSilent o → message_in (unless_refused plan n p o).reply ≡ None
 request_silent plan n p (Some reply) silent = silent
 request_silent plan n p None silent = taken_silent (settle plan (entered plan n p)).log p.id
 

@@ -43,3 +43,4 @@ pub mod NodeRules
 pub mod Ceilings
 pub mod WorldGrowth
 pub mod Later
+pub mod SentMessages

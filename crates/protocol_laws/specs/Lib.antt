@@ -19,3 +19,5 @@ pub mod ClusterHistories
 pub mod ClusterAborts
 pub mod ReachedClusters
 pub mod Knowledge
+pub mod ManySites
+pub mod Later
