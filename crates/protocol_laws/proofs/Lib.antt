@@ -44,3 +44,5 @@ pub mod Ceilings
 pub mod WorldGrowth
 pub mod Later
 pub mod SentMessages
+pub mod WorldLaws
+pub mod LaterWorlds
