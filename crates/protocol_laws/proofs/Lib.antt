@@ -16,3 +16,5 @@ pub mod ArrivalSteps
 pub mod NodeRules
 pub mod Ceilings
 pub mod Growth
+pub mod JournalLaws
+pub mod AskedNodes
