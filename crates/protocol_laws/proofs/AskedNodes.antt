@@ -162,7 +162,7 @@ small_commits : (plan : PlanData) (n : Node) (ids : List TxnId) → IsSmallTable
 small_commits plan n [] h = h
 small_commits plan n (id ∷ ids) h = small_commits plan (commit_one plan n id) ids (small_set plan n.site n.table (clock plan n + 1) h)
 
-small_anywhere : (times : List ℕ) (place : ℕ) → All (λ time. time ≤ last_time) times → get_or times place 0 ≤ last_time
+pub small_anywhere : (times : List ℕ) (place : ℕ) → All (λ time. time ≤ last_time) times → get_or times place 0 ≤ last_time
 small_anywhere times place h = by_place (cases_lt place (length times))
   where
     by_place : (place < length times) ⊎ (length times ≤ place) → get_or times place 0 ≤ last_time

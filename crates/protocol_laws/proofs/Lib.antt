@@ -18,3 +18,5 @@ pub mod Ceilings
 pub mod Growth
 pub mod JournalLaws
 pub mod AskedNodes
+pub mod SentMessages
+pub mod Spelling

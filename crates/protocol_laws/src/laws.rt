@@ -6,7 +6,7 @@ ghost use Rattle.protocol_laws.specs.Ceiling.{EachNodeStaysBelow};
 ghost use Rattle.protocol_laws.specs.Placed.{EachNodeIsPlaced};
 ghost use Rattle.protocol_laws.specs.Moves.{BatchMovesOneNode};
 ghost use Rattle.protocol_laws.specs.Symmetry.{ConflictIsSymmetric};
-ghost use Rattle.protocol_laws.specs.Times.{AskedIsTransaction, EachEntryMayBeAsked, EachTableIsSmall};
+ghost use Rattle.protocol_laws.specs.Times.{AskedIsTransaction, EachEntryMayBeAsked, EachTableIsSmall, EachRecordIsSpellable, EachReplyIsSpellable};
 
 /// Conflict is the same from both sides.
 pub fn conflict_is_symmetric()
@@ -56,4 +56,15 @@ pub fn each_table_is_small()
 /// site's row of the table has of its origin: an own time is at most the site's clock.
 pub fn each_time_rises()
     ensures { EachTimeRises }
+{}
+
+/// In each world of an accepted plan each record of a site's log has a spelling: each id in it has a time from 1 to 2^62
+/// half microseconds, and its keys and values are within their limits.
+pub fn each_record_is_spellable()
+    ensures { EachRecordIsSpellable }
+{}
+
+/// In each world of an accepted plan each reply that was told has a spelling, and with it each message that was sent.
+pub fn each_reply_is_spellable()
+    ensures { EachReplyIsSpellable }
 {}
