@@ -15,7 +15,7 @@ use Rattle.protocol_laws.proofs.EndRuns.{IsHeld, IsLatest, IsOwnId, IsRun, IsTim
 use Rattle.protocol_laws.proofs.Lists.{find_finds, pairs_head, pairs_tail, some_of}
 use Rattle.protocol_laws.proofs.OneMore.{unfinished_is}
 use Rattle.protocol_laws.proofs.OwnOpen.{own_ended, own_no_more, own_unfinished}
-use Rattle.protocol_laws.specs.Logs.{aborted}
+use Rattle.helios_model.specs.ConflictOrder.{aborted}
 use Rattle.protocol_laws.specs.Pool.{IsBacked}
 use Rattle.protocol_laws.specs.Shapes.{Rises}
 

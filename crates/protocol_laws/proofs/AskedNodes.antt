@@ -25,7 +25,7 @@ use Rattle.protocol_laws.proofs.ArrivalSteps.{AreAhead, IsNews, IsTimelyIntake, 
 use Rattle.protocol_laws.proofs.Ceilings.{HasRoom, IsLow, low_advanced, low_empty, low_rules}
 use Rattle.protocol_laws.proofs.EndRuns.{IsTimely, commits_end, end_one, held_end, run_keeps, timely_end, timely_own}
 use Rattle.protocol_laws.proofs.Grids.{known_set, times_row}
-use Rattle.protocol_laws.proofs.Growth.{advanced_goes, record_goes, settle_goes}
+use Rattle.protocol_laws.proofs.WorldGrowth.{advanced_goes, record_goes, settle_goes}
 use Rattle.protocol_laws.proofs.JournalLaws.{AreAsked, each_asked}
 use Rattle.protocol_laws.proofs.NodeRules.{IsKeptByRules, IsSteady, commit, entries_keep, entry_keeps, next_above, ready_ids, settled_intake, settled_site, steady_advanced, steady_empty, steady_settled, taken_in}
 use Rattle.protocol_laws.specs.Logs.{EachTimeRises}

@@ -43,7 +43,7 @@ use Rattle.protocol_laws.proofs.JournalLaws.{AreAsked, each_asked, event_asked, 
 use Rattle.protocol_laws.proofs.Lists.{contains_here, contains_later, find_passes}
 use Rattle.protocol_laws.proofs.NodeRules.{IsKeptByRules, IsSteady, commit, entries_keep, entry_keeps, next_above, ready_ids, settled_intake, settled_site}
 use Rattle.protocol_laws.proofs.OneMore.{prepare_stands, unfinished_is}
-use Rattle.protocol_laws.proofs.SentMessages.{message_spelled}
+use Rattle.protocol_laws.proofs.SpelledMessages.{message_spelled}
 use Rattle.protocol_laws.specs.Ceiling.{highest_clock}
 use Rattle.protocol_laws.specs.Times.{EachRecordIsSpellable, EachReplyIsSpellable}
 

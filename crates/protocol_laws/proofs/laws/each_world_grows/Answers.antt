@@ -1,4 +1,4 @@
-use Rattle.protocol_laws.proofs.Growth.{each_world_grows}
+use Rattle.protocol_laws.proofs.WorldGrowth.{each_world_grows}
 use Rattle.protocol_laws.proofs.laws.each_world_grows.Goals as goal
 
 pub returns : goal.returns
