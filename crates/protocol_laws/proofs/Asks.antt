@@ -36,10 +36,10 @@ differ_kept : {X Y : Type 0} (f : X → Y) (key : X → List ℕ) (key' : Y → 
 differ_kept f key key' same [] = refl
 differ_kept f key key' same (x ∷ xs) = rw (same x, any_kept f key key' same (key x) xs, differ_kept f key key' same xs) refl
 
-written_few : (log : List Record) (puts : List PutItem) → length puts ≤ most_items → length (map (write_at log) puts) ≤ most_items
+pub written_few : (log : List Record) (puts : List PutItem) → length puts ≤ most_items → length (map (write_at log) puts) ≤ most_items
 written_few log puts few = rw length-map few
 
-written_differ : (log : List Record) (puts : List PutItem) → IsTrue (all_differ (λ p. p.key) puts) → IsTrue (all_differ (λ w. w.key) (map (write_at log) puts))
+pub written_differ : (log : List Record) (puts : List PutItem) → IsTrue (all_differ (λ p. p.key) puts) → IsTrue (all_differ (λ w. w.key) (map (write_at log) puts))
 written_differ log puts differ =
     let same : all_differ (λ w. w.key) (map (write_at log) puts) ≡ all_differ (λ p. p.key) puts = differ_kept (write_at log) (λ p. p.key) (λ w. w.key) (λ x. refl) puts in
     rw same differ

@@ -89,7 +89,7 @@ room_arrived plan n m h after few low =
     ap (λ a. length (own_unfinished n.site a.log)) (arrived_intake plan n m h.inside) in
     record { steady = after; sum = omega arith; few = omega arith }
 
-low_advanced : (plan : PlanData) (n : Node) (reading : ℕ) → IsLow plan n → IsSteady plan (advanced plan n reading) → clock plan n < spent_time
+pub low_advanced : (plan : PlanData) (n : Node) (reading : ℕ) → IsLow plan n → IsSteady plan (advanced plan n reading) → clock plan n < spent_time
     → IsLow plan (advanced plan n reading)
 low_advanced plan n reading h after below =
     let low : clock plan (advanced plan n reading) < spent_time = advanced_low plan n reading h.steady.inside below in

@@ -46,3 +46,7 @@ pub mod Later
 pub mod SentMessages
 pub mod WorldLaws
 pub mod LaterWorlds
+pub mod JournalLaws
+pub mod AskedNodes
+pub mod SpelledMessages
+pub mod Spelling

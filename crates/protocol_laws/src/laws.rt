@@ -1,11 +1,12 @@
 //! Each law is carried by a function with an empty body, whose one clause states it of every plan and every list of
 //! steps.
+ghost use Rattle.protocol_laws.specs.Logs.{EachTimeRises};
 ghost use Rattle.protocol_laws.specs.Histories.{EachWorldGrows};
 ghost use Rattle.protocol_laws.specs.Ceiling.{EachNodeStaysBelow};
 ghost use Rattle.protocol_laws.specs.Placed.{EachNodeIsPlaced};
 ghost use Rattle.protocol_laws.specs.Moves.{BatchMovesOneNode};
 ghost use Rattle.protocol_laws.specs.Symmetry.{ConflictIsSymmetric};
-ghost use Rattle.protocol_laws.specs.Times.{AskedIsTransaction};
+ghost use Rattle.protocol_laws.specs.Times.{AskedIsTransaction, EachEntryMayBeAsked, EachTableIsSmall, EachRecordIsSpellable, EachReplyIsSpellable};
 
 /// Conflict is the same from both sides.
 pub fn conflict_is_symmetric()
@@ -38,4 +39,32 @@ pub fn each_node_stays_below()
 /// site's table falls.
 pub fn each_world_grows()
     ensures { EachWorldGrows }
+{}
+
+/// Each entry of a site's journal is one that the site may be asked: a request within the limits, a message for another site
+/// of the plan, or a well-formed message for this one.
+pub fn each_entry_may_be_asked()
+    ensures { EachEntryMayBeAsked }
+{}
+
+/// No time in a site's table is above 2^62 half microseconds.
+pub fn each_table_is_small()
+    ensures { EachTableIsSmall }
+{}
+
+/// In each site's log the own times of each origin rise strictly from above 0, and each is at most the time that the
+/// site's row of the table has of its origin: an own time is at most the site's clock.
+pub fn each_time_rises()
+    ensures { EachTimeRises }
+{}
+
+/// In each world of an accepted plan each record of a site's log has a spelling: each id in it has a time from 1 to 2^62
+/// half microseconds, and its keys and values are within their limits.
+pub fn each_record_is_spellable()
+    ensures { EachRecordIsSpellable }
+{}
+
+/// In each world of an accepted plan each reply that was told has a spelling, and with it each message that was sent.
+pub fn each_reply_is_spellable()
+    ensures { EachReplyIsSpellable }
 {}
