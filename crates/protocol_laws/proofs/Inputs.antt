@@ -96,7 +96,7 @@ ready_still plan n p q apart h = record {
       (h.waited j low other);
 }
 
-reached_waited : (plan : PlanData) (n : Node) (time : ℕ) → is_reached plan n time ≡ true → (j : ℕ) → j < count_of plan → j ≢ n.site
+pub reached_waited : (plan : PlanData) (n : Node) (time : ℕ) → is_reached plan n time ≡ true → (j : ℕ) → j < count_of plan → j ≢ n.site
     → is_past plan n.site j time (known plan n n.site j) ≡ true
 reached_waited plan n time reached j low apart =
     let here : get_or (range_with_len 0 (count_of plan)) j 0 ≡ j = get_or-range_with_len 0 (count_of plan) j 0 low ∙ omega arith in
@@ -113,7 +113,7 @@ reached_waited plan n time reached j low apart =
     by_side (inr past) = past
 
 -- the ready ones, in log order
-abbrev ready_ones : PlanData → Node → List Transaction
+abbrev pub ready_ones : PlanData → Node → List Transaction
 ready_ones plan n = filter (λ p. is_reached plan n p.id.time) (own_open n)
 
 are_ready : (plan : PlanData) (n : Node) → All (IsReady plan n) (ready_ones plan n)

@@ -50,3 +50,4 @@ pub mod JournalLaws
 pub mod AskedNodes
 pub mod SpelledMessages
 pub mod Spelling
+pub mod Waiting
