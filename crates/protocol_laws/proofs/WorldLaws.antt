@@ -127,7 +127,7 @@ module _ (plan : PlanData) (w : World) (reached : IsReached plan (cluster_of pla
     causal = λ i x r low there before. kept.honest.causal i x r there before;
     sent = all_from (IsHonestMessage plan w) w.sent
         (λ m there. honest_message m (All-contains (λ x. x.to < count_of plan) w.sent m to_sites there)
-            (kept.honest.sent (letter_of plan m) (letter_sent plan w m there)));
+        (kept.honest.sent (letter_of plan m) (letter_sent plan w m there)));
   }
 
   pub ordered_world : IsOrdered plan w
