@@ -1,5 +1,5 @@
 -- What holds between a world and a later one: ids stay given, and the times that a message gives are kept.
-use Rattle.std.proofs.Common.{◌≡◌, ◌∙◌, ap, refl, sym, subst, ℕ, ◌<◌, ◌≤◌, true, ◌⊎◌, inl, inr, Some, is_some, nat_lt, List, [], ◌∷◌, ◌++◌, length, get_or, drop, flat_map, All, Contains, arith}
+use Rattle.std.proofs.Common.{◌≡◌, ◌∙◌, ap, sym, subst, ℕ, ◌<◌, ◌≤◌, true, is_some, nat_lt, List, [], ◌∷◌, ◌++◌, length, get_or, drop, flat_map, All, Contains, arith}
 use Rattle.std.proofs.Math.Seq.{drop-append_seam}
 use Rattle.std.proofs.lemmas.List.Elements.{All-nil, All-cons, All-head, All-tail, All-append, All-weaker, All-contains, Contains-append_left}
 use Rattle.std.proofs.lemmas.Bool.{cond-true, lt-ltb}
@@ -28,7 +28,7 @@ use Rattle.protocol_laws.proofs.Lists.{all_from}
 use Rattle.protocol_laws.proofs.Sequences.{contains_from_mem, mem_from_contains}
 use Rattle.protocol_laws.proofs.OneMore.{prepare_stands, prepares_append}
 use Rattle.protocol_laws.proofs.Endings.{prepare_found}
-use Rattle.protocol_laws.proofs.KnownRecords.{clock_below, cover_below, home, letter_home, table_below}
+use Rattle.protocol_laws.proofs.KnownRecords.{clock_below, cover_below, letter_home, table_below}
 use Rattle.protocol_laws.proofs.ReachedClusters.{each_abort_is_named, each_cluster_is_kept, events_are_commits}
 use Rattle.protocol_laws.proofs.Worlds.{first_journals, run_journals}
 use Rattle.protocol_laws.proofs.Views.{within_inside}

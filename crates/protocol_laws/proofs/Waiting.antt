@@ -1,30 +1,29 @@
 -- Each own Commit of a node's log waited, whatever the node is asked.
-use Rattle.std.proofs.Common.{◌≡◌, ◌≢◌, ◌∙◌, ap, refl, sym, subst, ℕ, ◌+◌, ◌<◌, ◌≤◌, Bool, true, false, ◌||◌, ◌⊎◌, inl, inr, cond, nat_eq, nat_le, List, [], ◌∷◌, ◌++◌, length, fold, map, drop, All, Contains, arith}
+use Rattle.std.proofs.Common.{◌≡◌, ◌≢◌, ◌∙◌, ap, sym, subst, ℕ, ◌+◌, ◌<◌, ◌≤◌, ◌⊎◌, inl, inr, cond, nat_eq, nat_le, List, [], ◌∷◌, ◌++◌, length, fold, map, All, Contains, arith}
 use Rattle.std.proofs.lemmas.Bool.{cond_both, eqb-false, leb-true, or_parts}
 use Rattle.std.proofs.lemmas.Grind.{fold-append}
-use Rattle.std.proofs.lemmas.List.Elements.{All-nil, All-head, All-tail, All-append, All-push, All-drop, All-weaker, All-contains}
+use Rattle.std.proofs.lemmas.List.Elements.{All-nil, All-append, All-push, All-drop, All-weaker, All-contains}
 use Rattle.helios_model.specs.declared.ids.TxnId.{TxnId}
 use Rattle.helios_model.specs.declared.entries.Entry.{Entry}
-use Rattle.helios_model.specs.declared.entries.Input.{Input}
 use Rattle.helios_model.specs.declared.messages.Message.{Message}
 use Rattle.helios_model.specs.declared.records.Record.{Record}
 use Rattle.helios_model.specs.declared.records.Record.TheVariants.{Prepare, Commit, Abort}
 use Rattle.helios_model.specs.Transactions.{Transaction}
 use Rattle.helios_model.specs.Plans.{PlanData, count_of, latency, rtt}
 use Rattle.helios_model.specs.Log.{id_of, origin, own_time}
-use Rattle.helios_model.specs.Exchange.{Intake, abort_one, clashing, is_passed, is_unfinished, take_all, take_new, take_one, take_prepare, with_taken}
+use Rattle.helios_model.specs.Exchange.{Intake, abort_one, clashing, is_passed, is_unfinished, take_all, take_new, take_one, with_taken}
 use Rattle.helios_model.specs.Node.{Node, clock, empty_node, known, own_open}
 use Rattle.helios_model.specs.Settle.{is_reached, ready, settle}
 use Rattle.helios_model.specs.Request.{asked, entered, next_id}
 use Rattle.helios_model.specs.Messages.{advanced, arrived, intake_of}
 use Rattle.helios_model.specs.Step.{after_entries, after_entry}
-use Rattle.helios_model.specs.World.{World, entries_of, first_world, node_of, run}
+use Rattle.helios_model.specs.World.{entries_of, first_world, run}
 use Rattle.protocol_laws.specs.Nodes.{IsWaited}
-use Rattle.protocol_laws.specs.Logs.{CommitsWaited, EachCommitWaited, NewCommitsWaited}
+use Rattle.protocol_laws.specs.Logs.{EachCommitWaited}
 use Rattle.protocol_laws.proofs.Lists.{all_from, contains_cases, contains_here, contains_later, contains_from_filter, contains_nothing}
 use Rattle.protocol_laws.proofs.Grids.{IsInside}
 use Rattle.protocol_laws.proofs.EndRuns.{IsRun, commits_end, runs}
-use Rattle.protocol_laws.proofs.NodeRules.{IsKeptByRules, IsSteady, commit, entries_keep, inside_advanced, inside_arrived, inside_empty, inside_entered, inside_settled, settled_intake}
+use Rattle.protocol_laws.proofs.NodeRules.{IsKeptByRules, commit, entries_keep, inside_advanced, inside_arrived, inside_empty, inside_entered, inside_settled, settled_intake}
 use Rattle.protocol_laws.proofs.WorldGrowth.{GoesOn, advanced_goes, arrived_goes, record_goes, settle_goes}
 use Rattle.protocol_laws.proofs.Inputs.{ready_ones, reached_waited}
 

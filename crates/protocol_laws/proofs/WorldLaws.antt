@@ -1,32 +1,27 @@
 -- What small steps keep, in each world that steps reach.
-use Rattle.std.proofs.Common.{◌≡◌, ◌≢◌, ◌∙◌, ap, refl, sym, subst, ℕ, ◌+◌, ◌<◌, ◌≤◌, Bool, true, false, ◌&&◌, ◌||◌, ◌⊎◌, inl, inr, cond, nat_eq, nat_le, nat_lt, List, [], ◌∷◌, ◌++◌, length, get_or, All, AllPairs, Contains, arith}
-use Rattle.std.proofs.lemmas.List.Elements.{All-contains, All-weaker, Contains-append_left, Contains-append_right}
-use Rattle.std.proofs.lemmas.Bool.{cases_lt, cond-true, leb-true, lt-ltb}
-use Rattle.helios_model.specs.declared.ids.TxnId.{TxnId}
+use Rattle.std.proofs.Common.{◌≡◌, ◌∙◌, ap, refl, sym, subst, ℕ, ◌<◌, ◌≤◌, Bool, true, false, ◌&&◌, ◌||◌, ◌⊎◌, inl, inr, cond, nat_eq, nat_le, nat_lt, List, [], ◌∷◌, ◌++◌, get_or, All, Contains, arith}
+use Rattle.std.proofs.lemmas.List.Elements.{All-contains, Contains-append_left, Contains-append_right}
+use Rattle.std.proofs.lemmas.Bool.{cases_lt, cond-true, lt-ltb}
 use Rattle.helios_model.specs.declared.messages.Message.{Message}
 use Rattle.helios_model.specs.declared.records.Record.{Record}
 use Rattle.helios_model.specs.declared.records.Record.TheVariants.{Prepare, Commit, Abort}
-use Rattle.helios_model.specs.Ids.{same_id}
 use Rattle.helios_model.specs.Transactions.{Transaction}
-use Rattle.helios_model.specs.Plans.{PlanData, count_of, latency, rtt}
+use Rattle.helios_model.specs.Plans.{PlanData, count_of}
 use Rattle.helios_model.specs.Grid.{at}
-use Rattle.helios_model.specs.Offset.{IsWithin}
-use Rattle.helios_model.specs.Log.{ends, finished, origin, own_time, prepares}
+use Rattle.helios_model.specs.Log.{origin, own_time, prepares}
 use Rattle.helios_model.specs.Sequences.{Mem, Before, last_own, of, over, upto}
-use Rattle.helios_model.specs.Exchange.{Intake, is_passed, is_unfinished, take_all}
-use Rattle.helios_model.specs.Node.{Node, clock, known}
+use Rattle.helios_model.specs.Exchange.{Intake, is_unfinished, take_all}
+use Rattle.helios_model.specs.Node.{clock, known}
 use Rattle.helios_model.specs.Messages.{intake_of}
-use Rattle.helios_model.specs.World.{World, Event, MayRun, first_world, node_of, run}
+use Rattle.helios_model.specs.World.{World, first_world, node_of, run}
 use Rattle.helios_model.specs.Knowledge.{IsHonest, IsHonestMessage}
-use Rattle.helios_model.specs.ConflictOrder.{aborted, ConflictsEndFirst, IsOrdered}
-use Rattle.helios_model.specs.NamedAbort.{AbortsAreCaused, IsCaused}
+use Rattle.helios_model.specs.ConflictOrder.{IsOrdered}
+use Rattle.helios_model.specs.NamedAbort.{AbortsAreCaused}
 use Rattle.protocol_laws.specs.Logs.{ConflictsAreOrdered, EachConflictIsOrdered, EachEndingFollows, EachIdIsGivenOnce, EachVersionWasCurrent, EndingsFollow, FollowsBefore, VersionsWereCurrent}
 use Rattle.protocol_laws.specs.Shapes.{EachBehind}
-use Rattle.protocol_laws.specs.Nodes.{IsWaited}
 use Rattle.protocol_laws.specs.Histories.{EachHistoryIsCommits, HistoryIsSerial}
-use Rattle.protocol_laws.specs.Clusters.{Cluster, Honest, HonestLetter, Letter}
+use Rattle.protocol_laws.specs.Clusters.{Cluster, HonestLetter}
 use Rattle.protocol_laws.specs.ClusterAborts.{IsNamedAbort}
-use Rattle.protocol_laws.specs.Reach.{HasWaited}
 use Rattle.protocol_laws.specs.ReachedClusters.{ConflictsAreApart, EndsAreSound, IsKept}
 use Rattle.protocol_laws.specs.SmallSteps.{IsReached}
 use Rattle.protocol_laws.specs.Views.{cluster_of, cover_in, letter_of, letters_of, table_in, table_of, within}
@@ -39,7 +34,7 @@ use Rattle.protocol_laws.proofs.Placed.{node_placed}
 use Rattle.protocol_laws.proofs.Views.{within_inside}
 use Rattle.protocol_laws.proofs.Chains.{all_rows}
 use Rattle.protocol_laws.proofs.Inputs.{outside_empty}
-use Rattle.protocol_laws.proofs.KnownRecords.{IsTold, letter_home}
+use Rattle.protocol_laws.proofs.KnownRecords.{letter_home}
 use Rattle.protocol_laws.proofs.ReachedClusters.{each_abort_is_named, each_cluster_is_kept, each_conflict_is_apart, each_end_is_sound, each_end_is_taken, each_id_has_one_prepare, each_version_is_current}
 use Rattle.protocol_laws.proofs.SentMessages.{sent_to_sites}
 use Rattle.protocol_laws.proofs.Runs.{simulation}
