@@ -22,10 +22,11 @@ use Rattle.protocol_laws.specs.Shapes.{EachBehind}
 use Rattle.protocol_laws.specs.Histories.{EachHistoryIsCommits, HistoryIsSerial}
 use Rattle.protocol_laws.specs.Clusters.{Cluster, HonestLetter}
 use Rattle.protocol_laws.specs.ClusterAborts.{IsNamedAbort}
-use Rattle.protocol_laws.specs.ReachedClusters.{ConflictsAreApart, EndsAreSound, IsKept}
+use Rattle.protocol_laws.specs.ReachedClusters.{ConflictsAreApart, EndsAreSound, EventsAreCommits, IsCommitOfEvent, IsKept}
+use Rattle.protocol_laws.specs.ClusterHistories.{NamesEvents}
 use Rattle.protocol_laws.specs.SmallSteps.{IsReached}
 use Rattle.protocol_laws.specs.Views.{cluster_of, cover_in, letter_of, letters_of, table_in, table_of, within}
-use Rattle.protocol_laws.specs.ManySites.{EachWorldIsHonest, EachWorldIsOrdered, EachAbortIsCaused, EachSentEndIsTaken, SentEndsAreTaken}
+use Rattle.protocol_laws.specs.ManySites.{CommitsAreEvents, EachCommitIsEvent, NamesCommitted, EachWorldIsHonest, EachWorldIsOrdered, EachAbortIsCaused, EachSentEndIsTaken, SentEndsAreTaken}
 use Rattle.protocol_laws.proofs.Lists.{all_from, contains_here, contains_map}
 use Rattle.protocol_laws.proofs.Sequences.{contains_from_mem, mem_from_contains}
 use Rattle.protocol_laws.proofs.OneMore.{prepare_stands}
@@ -35,7 +36,7 @@ use Rattle.protocol_laws.proofs.Views.{within_inside}
 use Rattle.protocol_laws.proofs.Chains.{all_rows}
 use Rattle.protocol_laws.proofs.Inputs.{outside_empty}
 use Rattle.protocol_laws.proofs.KnownRecords.{letter_home}
-use Rattle.protocol_laws.proofs.ReachedClusters.{each_abort_is_named, each_cluster_is_kept, each_conflict_is_apart, each_end_is_sound, each_end_is_taken, each_id_has_one_prepare, each_version_is_current}
+use Rattle.protocol_laws.proofs.ReachedClusters.{each_abort_is_named, each_cluster_is_kept, each_conflict_is_apart, each_end_is_sound, each_end_is_taken, each_history_is_honest, each_id_has_one_prepare, each_version_is_current}
 use Rattle.protocol_laws.proofs.SentMessages.{sent_to_sites}
 use Rattle.protocol_laws.proofs.Runs.{simulation}
 
@@ -203,6 +204,25 @@ module _ (plan : PlanData) (w : World) (reached : IsReached plan (cluster_of pla
       (mem_from_contains (node_of plan w i).log (Prepare p) (prepare_stands (node_of plan w i).log p at_p))
       (mem_from_contains (node_of plan w j).log (Prepare q) (prepare_stands (node_of plan w j).log q at_q)) same
 
+  named_committed : (p : Transaction) → NamesEvents u p → NamesCommitted plan w p
+  named_committed p h = record { reads = h.reads; writes = h.writes }
+
+  pub commits_world : CommitsAreEvents plan w
+  commits_world = record {
+    home = events.home;
+    commits = λ k low id time there.
+        let found : IsCommitOfEvent u k id time = events.commit k id time (mem_from_contains (node_of plan w k).log (Commit id time) there) in
+        record { event = found.event; stands = found.stands; named = found.named; timed = found.timed; prepared = found.prepared };
+    never_aborted = λ k low id time cause e there.
+        events.never_aborted k id time cause e (mem_from_contains (node_of plan w k).log (Abort id time cause) there);
+    named = λ k low p there. named_committed p (events.named k p (mem_from_contains (node_of plan w k).log (Prepare p) there));
+    sent = λ m p there in_it.
+        named_committed p (events.sent (letter_of plan m) p (letter_sent plan w m there) (mem_from_contains m.records (Prepare p) in_it));
+  }
+    where
+      events : EventsAreCommits u
+      events = (each_history_is_honest plan u reached).1
+
 pub each_world_is_honest : EachWorldIsHonest
 each_world_is_honest plan events may =
     honest_world plan (run plan (first_world plan) events) (simulation plan events may) (sent_to_sites plan events may)
@@ -243,3 +263,6 @@ each_history_is_commits plan events may =
 pub history_is_serial : HistoryIsSerial
 history_is_serial plan events may accepted =
     (each_cluster_is_kept plan (cluster_of plan (run plan (first_world plan) events)) (simulation plan events may)).serial accepted
+
+pub each_commit_is_event : EachCommitIsEvent
+each_commit_is_event plan events may = commits_world plan (run plan (first_world plan) events) (simulation plan events may)

@@ -1,7 +1,7 @@
 //! Each law is carried by a function with an empty body, whose one clause states it of every plan and every list of
 //! steps.
 ghost use Rattle.protocol_laws.specs.Later.{EachTimeIsKept, EachIdStaysGiven};
-ghost use Rattle.protocol_laws.specs.ManySites.{EachWorldIsHonest, EachSentEndIsTaken, EachWorldIsOrdered, EachAbortIsCaused};
+ghost use Rattle.protocol_laws.specs.ManySites.{EachWorldIsHonest, EachSentEndIsTaken, EachWorldIsOrdered, EachAbortIsCaused, EachCommitIsEvent};
 ghost use Rattle.protocol_laws.specs.Logs.{EachTimeRises, EachIdIsGivenOnce, EachEndingFollows, EachVersionWasCurrent, EachCommitWaited, EachConflictIsOrdered};
 ghost use Rattle.protocol_laws.specs.Histories.{EachWorldGrows, EachHistoryIsCommits, HistoryIsSerial};
 ghost use Rattle.protocol_laws.specs.Ceiling.{EachNodeStaysBelow};
@@ -134,6 +134,13 @@ pub fn each_world_is_ordered()
 /// one of the plan's sites.
 pub fn each_history_is_commits()
     ensures { EachHistoryIsCommits }
+{}
+
+/// The history and the Commits of all logs are the same transactions: a Commit in any log is that of an event, whose Prepare
+/// stands before it; no event is aborted in any log; and each version that a Prepare in a log or in a sent message names is
+/// `Initial`, or that of an event which writes the key.
+pub fn each_commit_is_event()
+    ensures { EachCommitIsEvent }
 {}
 
 /// In each world of an accepted plan the history is a serial history that gives every version read.
