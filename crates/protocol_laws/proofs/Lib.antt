@@ -51,3 +51,4 @@ pub mod AskedNodes
 pub mod SpelledMessages
 pub mod Spelling
 pub mod Waiting
+pub mod OneSite

@@ -10,5 +10,5 @@ pub use laws::{
     each_node_is_placed, each_node_stays_below, each_record_is_spellable, each_reply_is_spellable,
     each_sent_end_is_taken, each_table_is_small, each_time_is_kept, each_time_rises,
     each_version_was_current, each_world_grows, each_world_is_honest, each_world_is_ordered,
-    history_is_serial,
+    history_is_serial, serial_at_one_site,
 };
