@@ -45,6 +45,14 @@ impl ExchangeLog {
         })
     }
 
+    /// The site whose log it is.
+    pub fn site(&self) -> SiteId
+        ensures value { result ≡ self.now.site }
+        ensures here { self.now.site < self.now.count }
+    {
+        self.site
+    }
+
     /// The records, in the order in which they were appended.
     pub fn records(&self) -> &[Record]
         ensures value { result.now ≡ self.now.records }

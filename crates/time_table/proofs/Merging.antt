@@ -1,13 +1,14 @@
-use Rattle.std.proofs.Common.{◌≡◌, ◌∙◌, ap, sym, subst, refl, arith, add-zero, ℕ, ◌+◌, ◌*◌, ◌/◌, ◌%◌, ◌<◌, ◌≤◌, List, [], ◌∷◌, ◌++◌, length, get_or, map, take, drop}
+use Rattle.std.proofs.Common.{◌≡◌, ◌∙◌, ap, sym, subst, refl, arith, add-zero, eq-eqb, ℕ, ◌+◌, ◌*◌, ◌/◌, ◌%◌, ◌<◌, ◌≤◌, List, [], ◌∷◌, ◌++◌, length, get_or, map, take, drop}
 use Rattle.std.specs.List.{range_with_len}
 use Rattle.std.specs.Prelude.{slice_set}
 use Rattle.std.proofs.Math.Nat.{div-add-mod'}
 use Rattle.std.proofs.lemmas.List.{length-set, get_or-drop, take_all, take_more_set, drop-set-lt}
-use Rattle.std.proofs.lemmas.List.FromFn.{map-range_with_len_more}
+use Rattle.std.proofs.lemmas.List.FromFn.{get_or-map-range_with_len, map-range_with_len_more}
+use Rattle.std.proofs.lemmas.Nat.{div-mul-add, mod-mul-add, mul-add-lt}
 use Rattle.std.proofs.lemmas.Grind.{drop_more_same}
 use Rattle.helios_model.specs.Grid.{at}
 use Rattle.helios_model.specs.Exchange.{merged_at}
-use Rattle.time_table.specs.Table.{TableData, merged_with}
+use Rattle.time_table.specs.Table.{TableData, merged_with, time_at}
 
 -- the time that a merge puts at a place
 abbrev pub merged_place : TableData → ℕ → List ℕ → List ℕ → ℕ → ℕ
@@ -70,3 +71,13 @@ merged_all before after own theirs cover place h end square =
     whole =
         let all : length after.times ≤ place = subst (λ n. n ≤ place) (sym (h.sized ∙ square)) (subst (λ n. before.count * before.count ≤ n) (sym end) (omega arith)) in
         sym (take_all place after.times all) ∙ h.front ∙ ap (λ n. map (merged_place before own theirs cover) (range_with_len 0 n)) end
+
+-- a merge leaves the own time of the site as it is
+pub home_merged : (t : TableData) (own : ℕ) (theirs cover : List ℕ) → own < t.count → time_at (merged_with t own theirs cover) own own ≡ time_at t own own
+home_merged t own theirs cover low =
+    let place : ℕ = own * t.count + own in
+    let inside : place < t.count * t.count = mul-add-lt own t.count own t.count low low in
+    get_or-map-range_with_len (merged_place t own theirs cover) 0 (t.count * t.count) place place 0 inside (omega arith)
+    ∙ ap (λ row. merged_at t.count own t.times theirs cover row (place % t.count)) (div-mul-add own t.count own low)
+    ∙ ap (λ column. merged_at t.count own t.times theirs cover own column) (mod-mul-add own t.count own low)
+    ∙ rw (eq-eqb own own refl) refl

@@ -1,7 +1,7 @@
 //! The table of times of a site: up to when each site knows each other one, as far as this site knows.
 #![tactic(auto)]
 
-ghost use Rattle.std.specs.Prelude.{◌≡◌, ◌+◌, ◌*◌, ◌/◌, ◌%◌, ◌<◌, IfOk, length, slice_set};
+ghost use Rattle.std.specs.Prelude.{◌≡◌, ◌+◌, ◌*◌, ◌/◌, ◌%◌, ◌<◌, IfOk, length, max, slice_set};
 ghost use Rattle.helios_model.specs.Exchange.{merged_at};
 ghost use Rattle.time_table.specs.Table.{first_table, merged_with, raised, time_at};
 
@@ -69,7 +69,8 @@ impl TimeTable {
     pub fn raise(&mut self, row: SiteId, column: SiteId, to: Time)
         requires row { row < self.old.count }
         requires column { column < self.old.count }
-        ensures { self.new ≡ raised self.old row column to }
+        ensures value { self.new ≡ raised self.old row column to }
+        ensures there { time_at self.new row column ≡ max (time_at self.old row column) to }
     {
         let place = self.place(row, column);
         let known = self.times.items()[place];
@@ -82,7 +83,8 @@ impl TimeTable {
         requires own { own < self.old.count }
         requires square { length table.now ≡ self.old.count * self.old.count }
         requires one_row { length cover.now ≡ self.old.count }
-        ensures { self.new ≡ merged_with self.old own table.now cover.now }
+        ensures value { self.new ≡ merged_with self.old own table.now cover.now }
+        ensures home { time_at self.new own own ≡ time_at self.old own own }
     {
         let count = self.count() as usize;
         for place in 0..count * count {

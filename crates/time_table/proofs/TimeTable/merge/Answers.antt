@@ -1,6 +1,7 @@
 use Rattle.std.proofs.Common.{◌≡◌, ◌∙◌, ◌<◌, ◌*◌, ◌/◌, ◌%◌, ◌+◌, ap, sym, subst, arith}
 use Rattle.helios_model.specs.Exchange.{merged_at}
-use Rattle.time_table.proofs.Merging.{IsMergedUpTo, merged_more, merged_all}
+use Rattle.time_table.specs.Table.{time_at}
+use Rattle.time_table.proofs.Merging.{home_merged, IsMergedUpTo, merged_more, merged_all}
 use Rattle.time_table.proofs.TimeTable.merge.Goals as goal
 
 pub loop-place-preserved : goal.loop-place-preserved
@@ -16,8 +17,11 @@ loop-place-preserved c =
     ∙ ap (λ theirs. merged_at count c.args.own times theirs c.items-in-loop-place.result.now (place / count) (place % count)) c.items.ensures
     ∙ ap (λ cover. merged_at count c.args.own times c.args.table.now cover (place / count) (place % count)) c.items-in-loop-place.ensures))
 
-pub returns : goal.returns
-returns c =
+pub returns-clause-value : goal.returns-clause-value
+returns-clause-value c =
     let end : c.loop-place.place ≡ c.count-count.result * c.count-count.result = omega arith in
     merged_all c.args.self.now c.loop-place.self c.args.own c.args.table.now c.args.cover.now c.loop-place.place c.loop-place.invariant
     (end ∙ ap (λ n. n * n) c.count-count.ensures.value) c.count-count.ensures.square
+
+pub returns-clause-home : goal.returns-clause-home
+returns-clause-home c = ap (λ t. time_at t c.args.own c.args.own) (returns-clause-value c) ∙ home_merged c.args.self.now c.args.own c.args.table.now c.args.cover.now c.requires.own
