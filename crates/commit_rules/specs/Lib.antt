@@ -1,0 +1,3 @@
+pub mod Core
+pub mod Scan
+pub mod Outcome
