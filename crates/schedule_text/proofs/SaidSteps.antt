@@ -32,10 +32,9 @@ use Rattle.schedule_text.specs.declared.refusal.ScheduleRefusal.{ScheduleRefusal
 use Rattle.schedule_text.specs.declared.refusal.ScheduleRefusal.TheVariants.{TooManySteps, BadStep}
 use Rattle.schedule_text.specs.declared.steps.Step.{Step}
 use Rattle.schedule_text.specs.declared.steps.Step.TheVariants.{Batch, Restart}
-use Rattle.schedule_text.specs.Inputs.{forms_given, form_at, get_at, input_at, inputs_of, other_site, planned_version, pull_at, push_at, puts_of, read_at, reads_of, request_at, site_member, site_of, some_of, status_at}
+use Rattle.schedule_text.specs.Inputs.{forms_given, get_at, input_at, inputs_of, other_site, planned_version, pull_at, push_at, puts_of, read_at, reads_of, request_at, site_member, site_of, some_of, status_at}
 use Rattle.schedule_text.specs.Reading.{steps_of}
 use Rattle.schedule_text.specs.Stepping.{batch_at, call_of, is_both, keep_at, may_stop, restart_at, step_at, stop_at, stop_given}
-use Rattle.schedule_text.specs.Stepping as stepping
 use Rattle.schedule_text.specs.Steps.{ArePlannedReads, IsInput, IsPlannedVersion, IsStep, IsStop, is_journaled, last_batch_call, last_restart_call, most_steps}
 use Rattle.schedule_text.proofs.SaidParts.{AreParts, IsGivenPut, bind_some, either_some, guard_some, id_limits, key_limits, keyed_limits, map_some, parts_limits, put_given, some_injective, unless_some, version_limits}
 
@@ -147,21 +146,19 @@ module _ (plan : PlanData) (site : ℕ) (d : Data) (p : Planned) where
       let message = bind_some (number_member (codes "push") d) (λ (m : ℕ). Some (Push time.0 m)) p time.1.1 in
       subst (IsInput plan site) (some_injective (Push time.0 message.0) p message.1.1) tt
 
-form_limits : (plan : PlanData) (site : ℕ) (d : Data) (p : Planned) → form_at plan site d ≡ Some p → IsInput plan site p
-form_limits plan site d p e =
+input_limits : (plan : PlanData) (site : ℕ) (d : Data) (p : Planned) → input_at plan site d ≡ Some p → IsInput plan site p
+unfolding input_at
+input_limits plan site d p e =
     let P : Planned → Type 0 = IsInput plan site in
-    let push_or = push_at d in
-    let pull_or = if has_member (codes "pull") d then pull_at plan site d else push_or in
+    let pull_or = if has_member (codes "pull") d then pull_at plan site d else push_at d in
     let reads_or = if has_member (codes "reads") d then request_at d else pull_or in
     let status_or = if has_member (codes "status") d then status_at d else reads_or in
+    let said = if has_member (codes "get") d then get_at d else status_or in
     either_some P (has_member (codes "get") d) (get_at d) status_or (get_limits plan site d)
     (either_some P (has_member (codes "status") d) (status_at d) reads_or (status_limits plan site d)
     (either_some P (has_member (codes "reads") d) (request_at d) pull_or (request_limits plan site d)
-    (either_some P (has_member (codes "pull") d) (pull_at plan site d) push_or (pull_limits plan site d) (push_limits plan site d)))) p e
-
-input_limits : (plan : PlanData) (site : ℕ) (d : Data) (p : Planned) → input_at plan site d ≡ Some p → IsInput plan site p
-unfolding input_at
-input_limits plan site d p e = form_limits plan site d p (unless_some (nat_lt 1 (forms_given d)) (form_at plan site d) p e).1
+    (either_some P (has_member (codes "pull") d) (pull_at plan site d) (push_at d) (pull_limits plan site d) (push_limits plan site d))))
+    p (unless_some (nat_lt 1 (forms_given d)) said p e).1
 
 -- one item or more, each of which is an input
 record AreInputs (plan : PlanData) (site : ℕ) (inputs : List Planned) : Type 0 where
@@ -242,7 +239,7 @@ step_limits : (plan : PlanData) (d : Data) (step : Step) → step_at plan d ≡ 
 unfolding step_at
 step_limits plan d step e =
     either_some (IsStep plan) (has_member (codes "restart") d) (restart_at plan d) (batch_at plan d) (restart_limits plan d) (batch_limits plan d) step
-    (unless_some (is_both d) (stepping.form_at plan d) step e).1
+    (unless_some (is_both d) (if has_member (codes "restart") d then restart_at plan d else batch_at plan d) step e).1
 
 -- ---- the list of steps
 

@@ -93,18 +93,15 @@ abbrev pub forms_given : Data → ℕ
 forms_given d = count_by (λ given. given)
     (has_member (codes "get") d ∷ has_member (codes "status") d ∷ has_member (codes "reads") d ∷ has_member (codes "pull") d ∷ has_member (codes "push") d ∷ [])
 
--- what a value says by the first of the names that it gives
-abbrev pub form_at : PlanData → ℕ → Data → Option Planned
-form_at plan site d =
-    if has_member (codes "get") d then get_at d
+-- the input of a site that a value says by the one of the names that it gives
+unfoldable pub input_at : PlanData → ℕ → Data → Option Planned
+input_at plan site d =
+    if nat_lt 1 (forms_given d) then None
+    else (if has_member (codes "get") d then get_at d
     else (if has_member (codes "status") d then status_at d
     else (if has_member (codes "reads") d then request_at d
     else (if has_member (codes "pull") d then pull_at plan site d
-    else push_at d)))
-
--- the input of a site that a value says, where it gives no more than one of the names
-unfoldable pub input_at : PlanData → ℕ → Data → Option Planned
-input_at plan site d = if nat_lt 1 (forms_given d) then None else form_at plan site d
+    else push_at d))))
 
 -- a list of one item or more
 abbrev pub some_of : {T : Type 0} → List T → Option (List T)

@@ -69,9 +69,9 @@ restart_at plan d = do
 abbrev pub is_both : Data → Bool
 is_both d = has_member (codes "restart") d && has_member (codes "site") d
 
-abbrev pub form_at : PlanData → Data → Option Step
-form_at plan d = if has_member (codes "restart") d then restart_at plan d else batch_at plan d
-
 -- the step of a plan that a value says
 unfoldable pub step_at : PlanData → Data → Option Step
-step_at plan d = if is_both d then None else form_at plan d
+step_at plan d =
+    if is_both d then None
+    else (if has_member (codes "restart") d then restart_at plan d
+    else batch_at plan d)

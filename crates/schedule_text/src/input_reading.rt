@@ -2,7 +2,7 @@
 ghost use Rattle.std.specs.Prelude.{◌≡◌};
 ghost use Rattle.serde_json.specs.View.{items_view, view};
 ghost use Rattle.json_text.specs.Unread.{Reads};
-ghost use Rattle.schedule_text.specs.Inputs.{form_at, forms_given, get_at, input_at, inputs_of, pull_at, push_at, puts_of, read_at, reads_of, request_at, site_member, site_of, status_at};
+ghost use Rattle.schedule_text.specs.Inputs.{forms_given, get_at, input_at, inputs_of, pull_at, push_at, puts_of, read_at, reads_of, request_at, site_member, site_of, status_at};
 
 use crate::planned::{Planned, PlannedInputs, PlannedRead, PlannedReads, PlannedVersion};
 use helios_model::{MOST_INPUTS, Plan, Puts, SiteId};
@@ -147,11 +147,13 @@ fn forms_given(value: &Value) -> usize
     given.iter().filter(|given| **given).count()
 }
 
-/// What the value says by the first of the names that it gives.
-fn form(alloc: Global, plan: &Plan, site: SiteId, value: &Value) -> Result<Planned, Unread>
-    ensures { Reads result (form_at plan.now site (view value.now)) }
+#[tactic(auto, unfolding(crate::specs::Inputs::input_at))]
+fn input(alloc: Global, plan: &Plan, site: SiteId, value: &Value) -> Result<Planned, Unread>
+    ensures { Reads result (input_at plan.now site (view value.now)) }
 {
-    if has_member(value, "get") {
+    if forms_given(value) > 1 {
+        Err(Unread::OtherForm)
+    } else if has_member(value, "get") {
         get(alloc, value)
     } else if has_member(value, "status") {
         status(value).ok_or(Unread::OtherForm)
@@ -161,17 +163,6 @@ fn form(alloc: Global, plan: &Plan, site: SiteId, value: &Value) -> Result<Plann
         pull(plan, site, value).ok_or(Unread::OtherForm)
     } else {
         push(value).ok_or(Unread::OtherForm)
-    }
-}
-
-#[tactic(auto, unfolding(crate::specs::Inputs::input_at))]
-fn input(alloc: Global, plan: &Plan, site: SiteId, value: &Value) -> Result<Planned, Unread>
-    ensures { Reads result (input_at plan.now site (view value.now)) }
-{
-    if forms_given(value) > 1 {
-        Err(Unread::OtherForm)
-    } else {
-        form(alloc, plan, site, value)
     }
 }
 

@@ -68,12 +68,6 @@ impl PlannedReads {
     {
         self.items.as_slice()
     }
-
-    pub fn into_items(self) -> Vec<PlannedRead>
-        ensures { result.items ≡ self }
-    {
-        self.items
-    }
 }
 
 /// An input of a schedule. Each `at` is a reading of the site's clock, in half microseconds.
@@ -141,11 +135,5 @@ impl PlannedInputs {
         ensures { result.now ≡ self.now }
     {
         self.items.as_slice()
-    }
-
-    pub fn into_items(self) -> Vec<Planned>
-        ensures { result.items ≡ self }
-    {
-        self.items
     }
 }

@@ -5,7 +5,7 @@ ghost use Rattle.serde_json.specs.Find.{get};
 ghost use Rattle.serde_json.specs.View.{view};
 ghost use Rattle.json_text.specs.Reading.{Gives, required};
 ghost use Rattle.json_text.specs.Unread.{Reads};
-ghost use Rattle.schedule_text.specs.Stepping.{batch_at, byte_of, call_of, form_at, is_both, keep_at, may_stop, restart_at, step_at, stop_at, stop_given};
+ghost use Rattle.schedule_text.specs.Stepping.{batch_at, byte_of, call_of, is_both, keep_at, may_stop, restart_at, step_at, stop_at, stop_given};
 ghost use Rattle.schedule_text.specs.Steps.{is_journaled};
 ghost use Rattle.schedule_text.specs.declared.refusal.ScheduleRefusal.TheVariants.{BadStep};
 
@@ -127,24 +127,16 @@ fn is_both(value: &Value) -> bool
     has_member(value, "restart") && has_member(value, "site")
 }
 
-fn form(alloc: Global, plan: &Plan, value: &Value) -> Result<Step, Unread>
-    ensures { Reads result (form_at plan.now (view value.now)) }
-{
-    if has_member(value, "restart") {
-        restart(plan, value)
-    } else {
-        batch(alloc, plan, value)
-    }
-}
-
 #[tactic(auto, unfolding(crate::specs::Stepping::step_at))]
 fn step(alloc: Global, plan: &Plan, value: &Value) -> Result<Step, Unread>
     ensures { Reads result (step_at plan.now (view value.now)) }
 {
     if is_both(value) {
         Err(Unread::OtherForm)
+    } else if has_member(value, "restart") {
+        restart(plan, value)
     } else {
-        form(alloc, plan, value)
+        batch(alloc, plan, value)
     }
 }
 

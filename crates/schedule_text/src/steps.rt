@@ -49,12 +49,6 @@ impl StepList {
     {
         self.items.as_slice()
     }
-
-    pub fn into_items(self) -> Vec<Step>
-        ensures { result.items ≡ self }
-    {
-        self.items
-    }
 }
 
 /// What a cluster is to be taken through: its plan, and the steps of its sites in their order.
