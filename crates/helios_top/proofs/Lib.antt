@@ -1,6 +1,5 @@
 pub mod Commands
 pub mod Inputs
 pub mod Runs
-pub mod OneSite
-pub mod Replayable
+pub mod Replays
 pub mod Checks

@@ -3,11 +3,13 @@ use Rattle.std.specs.Prelude.{◌≡◌, ℕ, ◌⊎◌, List, [], ◌∷◌, �
 use Rattle.std.specs.Io.KnownBytes.{Appends}
 use Rattle.commit_offsets.specs.Lines as plan
 use Rattle.rtt_matrix.specs.Lines as matrix
+use Rattle.schedule_text.specs.Lines as schedule
+use Rattle.schedule_replay.specs.Refusals as steps
 use Rattle.outside_io.specs.Causes.{Rose}
 use Rattle.outside_io.specs.Seen.{SinkSeen}
 use Rattle.outside_io.specs.Whole.{AppendsPrefix}
 use Rattle.helios_top.specs.declared.ending.Refusal.{Refusal}
-use Rattle.helios_top.specs.declared.ending.Refusal.TheVariants.{OfMatrix, OfPlan, TooLarge, Unbuilt}
+use Rattle.helios_top.specs.declared.ending.Refusal.TheVariants.{OfMatrix, OfPlan, OfReplay, OfSchedule, TooLarge, Unbuilt}
 use Rattle.helios_top.specs.declared.ending.Ending.{Ending}
 use Rattle.helios_top.specs.declared.ending.Ending.TheVariants.{Usage, ReadFault, NoMemory, Refused, Printed, Judged}
 use Rattle.helios_top.specs.Verdicts.{verdict_status, verdict_text}
@@ -20,6 +22,8 @@ line text = text ++ 10 ∷ []
 abbrev pub refusal_text : Refusal → List ℕ
 refusal_text TooLarge = codes "too-large"
 refusal_text Unbuilt = codes "unbuilt"
+refusal_text (OfSchedule refusal) = schedule.refusal_text refusal
+refusal_text (OfReplay refusal) = steps.refusal_text refusal
 refusal_text (OfPlan refusal) = plan.refusal_text refusal
 refusal_text (OfMatrix refusal) = matrix.refusal_text refusal
 

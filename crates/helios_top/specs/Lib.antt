@@ -3,9 +3,7 @@ pub mod Ending
 pub mod Inputs
 pub mod IsRun
 pub mod Outside
-pub mod Reading
 pub mod Refusals
 pub mod Runs
-pub mod Stepping
 pub mod Verdicts
 pub mod Words

@@ -6,6 +6,8 @@ use commit_offsets::PlanRefusal;
 use helios_model::Bytes;
 use plan_certificate::Verdict;
 use rtt_matrix::MatrixRefusal;
+use schedule_replay::ReplayRefusal;
+use schedule_text::ScheduleRefusal;
 use std::alloc::{AllocError, Global};
 use std::fmt;
 
@@ -18,8 +20,12 @@ pub struct Status(pub u8);
 pub enum Refusal {
     /// The input has more bytes than a command reads.
     TooLarge,
-    /// The input is in no form that is built.
+    /// Some step of the schedule has a stop, which is not built yet.
     Unbuilt,
+    /// The text of a schedule breaks a rule.
+    OfSchedule(ScheduleRefusal),
+    /// A step of the schedule takes in a message that it can not take in.
+    OfReplay(ReplayRefusal),
     /// The text of a plan breaks a rule.
     OfPlan(PlanRefusal),
     /// The text of a matrix breaks a rule.
@@ -50,6 +56,8 @@ impl fmt::Display for Refusal {
         match self {
             Refusal::TooLarge => write!(f, "too-large"),
             Refusal::Unbuilt => write!(f, "unbuilt"),
+            Refusal::OfSchedule(refusal) => write!(f, "{refusal}"),
+            Refusal::OfReplay(refusal) => write!(f, "{refusal}"),
             Refusal::OfPlan(refusal) => write!(f, "{refusal}"),
             Refusal::OfMatrix(refusal) => write!(f, "{refusal}"),
         }

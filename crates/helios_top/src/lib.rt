@@ -6,9 +6,7 @@
 mod check;
 mod ending;
 mod plan;
-mod reading;
 mod replay;
-mod steps;
 mod top;
 mod words;
 

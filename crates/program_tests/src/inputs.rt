@@ -11,8 +11,20 @@ fn line_of(alloc: Global, word: &str, input: Vec<u8>) -> Result<(u8, Vec<u8>), A
 #[test]
 fn refuses_each_text(rt: HostRuntime) -> Result<(), Fail> {
     let cases = [
-        ("replay", "", "refused unbuilt\n"),
-        ("replay", "[", "refused unbuilt\n"),
+        ("replay", "", "refused not-json\n"),
+        ("replay", "[", "refused not-json\n"),
+        ("replay", "[]", "refused bad-shape\n"),
+        ("replay", r#"{"plan":1}"#, "refused bad-shape\n"),
+        (
+            "replay",
+            r#"{"plan":1,"steps":[]}"#,
+            "refused plan bad-field plan\n",
+        ),
+        (
+            "replay",
+            r#"{"plan":{"latency":[0,0],"names":["A","B"],"offset":[[0,-1],[-1,0]],"pair":[1,0],"rtt":[[0,1],[1,0]],"total":0,"version":1},"steps":[0]}"#,
+            "refused short-pair 0 1\n",
+        ),
         ("check", "", "refused not-json\n"),
         ("check", "[]", "refused bad-field plan\n"),
         ("check", "{}", "refused bad-field version\n"),
@@ -241,7 +253,7 @@ fn takes_each_form_and_no_other(rt: HostRuntime) -> Result<(), Fail> {
             r#"["a",""]"#,
             0,
         ),
-        (r#"["a","current"]"#, "", 5),
+        (r#"["a","current"]"#, "", 0),
         (r#"["a","0@0"]"#, "", 5),
         (r#"["a","0@01"]"#, "", 5),
         (r#"["a","32@1"]"#, "", 5),
@@ -272,7 +284,9 @@ fn takes_no_other_step(rt: HostRuntime) -> Result<(), Fail> {
         r#"{"site":1,"inputs":[{"at":1,"reads":[],"writes":[]}]}"#,
         r#"{"site":0,"inputs":[]}"#,
         r#"{"site":0,"inputs":[{"at":1,"reads":[],"writes":[]}],"stop":null}"#,
-        r#"{"restart":0}"#,
+        r#"{"restart":1}"#,
+        r#"{"restart":0,"site":0}"#,
+        r#"{"site":0,"inputs":[{"get":"x"}],"stop":{"call":1,"keep":"all"}}"#,
         r#"{"site":0,"inputs":[{"at":1,"reads":[],"writes":[],"push":null}]}"#,
         r#"{"site":0,"inputs":[{"at":1.0,"reads":[],"writes":[]}]}"#,
         r#"{"site":0,"inputs":[{"at":1,"reads":[]}]}"#,
@@ -280,6 +294,7 @@ fn takes_no_other_step(rt: HostRuntime) -> Result<(), Fail> {
     for step in cases {
         let got = line_of(rt.alloc(), "replay", schedule_text(rt.alloc(), step)?)?;
         assert_eq!(rt; got.0, 5, "{step}");
+        assert_eq!(rt; got.1.as_slice(), b"refused bad-step 0\n".as_slice(), "{step}");
     }
     Ok(())
 }

@@ -1,5 +1,5 @@
 //! Tests of the program as a whole, by the public calls of the crates that it is made of: `run` over sources and sinks in
-//! memory, and `replay` over schedules of two sites. They stand in a crate of their own, so that those crates are not proved again with them.
+//! memory, with schedules of several sites. They stand in a crate of their own, so that those crates are not proved again with them.
 #![tactic(auto)]
 
 #[cfg(test)]

@@ -69,7 +69,7 @@ fn takes_a_request_up_to_each_limit(rt: HostRuntime) -> Result<(), Fail> {
         let text = if status == 0 {
             report
         } else {
-            "refused unbuilt\n"
+            "refused bad-step 0\n"
         };
         assert_eq!(rt; got.written.as_slice(), text.as_bytes());
     }

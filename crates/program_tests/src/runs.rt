@@ -38,7 +38,7 @@ pub(crate) fn run_over(
         texts.push(String::from_str(alloc, word)?)?;
     }
     let mut source = MemSource::new(input, piece, reads.to_vec(alloc)?);
-    let mut sink = MemSink::new(alloc, 1000, piece, writes.to_vec(alloc)?)?;
+    let mut sink = MemSink::new(alloc, 10000, piece, writes.to_vec(alloc)?)?;
     let status = run(alloc, &texts, &mut source, &mut sink);
     Ok(Outcome {
         status: status.0,

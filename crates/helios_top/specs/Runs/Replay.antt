@@ -1,15 +1,16 @@
 -- `helios replay`: the input is a schedule, and what is printed is the report of the world that its steps reach.
-use Rattle.std.specs.Prelude.{◌≡◌, List, ℕ, IsSomeAnd}
+use Rattle.std.specs.Prelude.{◌≡◌, List, ℕ, IsOkAnd}
 use Rattle.protocol_laws.specs.Safe.{IsSafe}
 use Rattle.helios_model.specs.World.{StepsReach}
-use Rattle.schedule_replay.specs.declared.schedule.Schedule.{Schedule}
-use Rattle.schedule_replay.specs.Report.{reached, report_of}
+use Rattle.schedule_text.specs.declared.steps.Schedule.{Schedule}
+use Rattle.schedule_text.specs.Reading.{schedule_of_text}
+use Rattle.schedule_replay.specs.Entries.{reached}
+use Rattle.schedule_replay.specs.Report.{report_of}
 use Rattle.helios_top.specs.declared.words.Command.TheVariants.{Replay}
 use Rattle.helios_top.specs.declared.ending.Ending.{Ending}
 use Rattle.helios_top.specs.declared.ending.Ending.TheVariants.{Printed}
 use Rattle.helios_top.specs.Inputs.{ReadsInput}
 use Rattle.helios_top.specs.Outside.{Outside}
-use Rattle.helios_top.specs.Reading.{schedule_of}
 
 -- the report of the schedule is printed
 pub record IsReported (schedule : Schedule) (ending : Ending) : Type 0 where
@@ -21,7 +22,7 @@ pub record IsReported (schedule : Schedule) (ending : Ending) : Type 0 where
 
 -- what is answered to a text that is a schedule
 abbrev pub IsReplayAnswer : Ending → List ℕ → Type 0
-IsReplayAnswer ending text = IsSomeAnd (schedule_of text) (λ schedule. IsReported schedule ending)
+IsReplayAnswer ending text = IsOkAnd (schedule_of_text text) (λ schedule. IsReported schedule ending)
 
 -- what a run of `replay` does, whatever end it comes to
 abbrev pub ReplayRun : Outside → Outside → Ending → Type 0
