@@ -48,3 +48,4 @@ pub mod JournalLaws
 pub mod AskedNodes
 pub mod SpelledMessages
 pub mod Spelling
+pub mod ToldReplies

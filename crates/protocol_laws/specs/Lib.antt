@@ -21,3 +21,4 @@ pub mod ReachedClusters
 pub mod Knowledge
 pub mod ManySites
 pub mod Later
+pub mod Told
