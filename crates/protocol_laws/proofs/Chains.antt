@@ -142,7 +142,6 @@ none_outside count k rs sites above = by_find (find (λ r. nat_eq (origin r) k) 
 
 module _ (plan : PlanData) (w : Cluster) (n : Node) (letters : List Letter) (placed : IsPlaced plan n.site n) (low : n.site < count_of plan)
     (shown : IsShown plan w n letters) where
-
   abbrev u : Cluster
   u = shown.cluster
 
@@ -224,7 +223,7 @@ module _ (plan : PlanData) (w : Cluster) (n : Node) (letters : List Letter) (pla
       (Finish n.site low p (record {
         own = subst
             (λ t. OwnMoves u (next (n.log ++ Commit p.id (clock plan n + 1) ∷ []) (put (count_of plan) n.table n.site n.site (clock plan n + 1))
-                (event_at (clock plan n + 1) p ∷ [])) n.site (Commit p.id (t + 1) ∷ []) (event_at (t + 1) p ∷ []))
+            (event_at (clock plan n + 1) p ∷ [])) n.site (Commit p.id (t + 1) ∷ []) (event_at (t + 1) p ∷ []))
             (sym own_clock)
             (own_moves (n.log ++ Commit p.id (clock plan n + 1) ∷ []) (Commit p.id (clock plan n + 1) ∷ [])
             (put (count_of plan) n.table n.site n.site (clock plan n + 1)) (event_at (clock plan n + 1) p ∷ []) refl

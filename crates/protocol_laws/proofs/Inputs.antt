@@ -184,7 +184,7 @@ module _ (plan : PlanData) (w : Cluster) where
       commits_shown (commit_one plan n p.id) ps letters (placed_commits plan n.site n (p.id ∷ []) placed) low
       (pairs_tail (λ a b. same_id a.id b.id ≡ false) p ps apart)
       (λ k d less. ready_still plan n p (get_or ps k d) (pairs_head (λ a b. same_id a.id b.id ≡ false) p ps apart k d less)
-          (All-tail (IsReady plan n) p ps ready k d less))
+      (All-tail (IsReady plan n) p ps ready k d less))
       (shown_commit plan w n letters placed low shown p first.own first.open_here first.waited)
 
   -- what can commit commits

@@ -49,3 +49,4 @@ pub mod AskedNodes
 pub mod SpelledMessages
 pub mod Spelling
 pub mod ToldReplies
+pub mod ToldLaws

@@ -101,7 +101,6 @@ goes_nowhere : (plan : PlanData) (w : World) → IsReached plan (cluster_of plan
 goes_nowhere plan w reached = record { reached = reached; later = later_itself (cluster_of plan w) }
 
 module _ (plan : PlanData) where
-
   -- a site of a world, before its batch
   begun : (w : World) (s : ℕ) → IsReached plan (cluster_of plan w) → IsShown plan (cluster_of plan w) (node_of plan w s) (letters_of plan w.sent)
   begun w s reached =
@@ -163,7 +162,6 @@ module _ (plan : PlanData) where
 
   module _ (w : World) (s : ℕ) (entries : List Entry) (ending : Ending) (reached : IsReached plan (cluster_of plan w)) (many : length w.journals ≡ count_of plan)
       (may : IsBatch plan w s entries ending) where
-
     abbrev after : Node
     after = after_entries plan (node_of plan w s) entries
 

@@ -74,17 +74,17 @@ at_merged count own table theirs cover a b row column =
 pub merged_clock : (count own : ℕ) (table theirs cover : List ℕ) → table_in count (merged count own table theirs cover) own own ≡ table_in count table own own
 merged_clock count own table theirs cover =
     within_same count own own (at count (merged count own table theirs cover) own own) (at count table own own) (λ row column.
-        let same : nat_eq own own ≡ true = eq-eqb own own refl in
-        at_merged count own table theirs cover own own row column ∙ rw same refl)
+    let same : nat_eq own own ≡ true = eq-eqb own own refl in
+    at_merged count own table theirs cover own own row column ∙ rw same refl)
 
 -- its row goes up to the cover
 pub merged_row : (count own : ℕ) (table theirs cover : List ℕ) (k : ℕ) → own < count → k ≢ own
     → table_in count (merged count own table theirs cover) own k ≡ max (table_in count table own k) (cover_in count cover k)
 merged_row count own table theirs cover k low apart =
     within_same count own k (at count (merged count own table theirs cover) own k) (max (at count table own k) (get_or cover k 0)) (λ row column.
-        let same : nat_eq own own ≡ true = eq-eqb own own refl in
-        let other : nat_eq k own ≡ false = ne_eqb k own apart in
-        at_merged count own table theirs cover own k row column ∙ rw (same, other) refl)
+    let same : nat_eq own own ≡ true = eq-eqb own own refl in
+    let other : nat_eq k own ≡ false = ne_eqb k own apart in
+    at_merged count own table theirs cover own k row column ∙ rw (same, other) refl)
     ∙ within_max count own k (at count table own k) (get_or cover k 0)
     ∙ ap (max (table_in count table own k)) (by_column (cases_Bool (nat_lt k count)))
   where
@@ -97,6 +97,6 @@ pub merged_rows : (count own : ℕ) (table theirs cover : List ℕ) (a k : ℕ) 
     → table_in count (merged count own table theirs cover) a k ≡ max (table_in count table a k) (table_in count theirs a k)
 merged_rows count own table theirs cover a k apart =
     within_same count a k (at count (merged count own table theirs cover) a k) (max (at count table a k) (at count theirs a k)) (λ row column.
-        let other : nat_eq a own ≡ false = ne_eqb a own apart in
-        at_merged count own table theirs cover a k row column ∙ rw other refl)
+    let other : nat_eq a own ≡ false = ne_eqb a own apart in
+    at_merged count own table theirs cover a k row column ∙ rw other refl)
     ∙ within_max count a k (at count table a k) (at count theirs a k)

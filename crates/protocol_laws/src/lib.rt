@@ -5,6 +5,7 @@ mod laws;
 
 pub use laws::{
     asked_is_transaction, batch_moves_one_node, conflict_is_symmetric, each_entry_may_be_asked,
-    each_node_is_placed, each_node_stays_below, each_record_is_spellable, each_reply_is_spellable,
-    each_table_is_small, each_time_rises, each_world_grows,
+    each_node_is_placed, each_node_stays_below, each_record_is_spellable, each_refusal_is_named,
+    each_reply_is_spellable, each_sent_is_message, each_sent_is_told, each_table_is_small,
+    each_time_rises, each_told_is_true, each_told_stands, each_world_grows,
 };
