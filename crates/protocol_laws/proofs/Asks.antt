@@ -1,4 +1,4 @@
-use Rattle.std.proofs.Common.{◌≡◌, ◌∙◌, ap, refl, ℕ, ◌<◌, ◌≤◌, Bool, true, false, not, IsTrue, Option, Some, None, option_map, nat_le, if◌then◌else◌, List, [], ◌∷◌, length, map, arith}
+use Rattle.std.proofs.Common.{◌≡◌, ◌∙◌, ap, refl, ℕ, ◌<◌, ◌≤◌, Bool, true, false, not, IsTrue, Option, Some, None, option_map, nat_le, if◌then◌else◌, List, [], ◌∷◌, length, map}
 use Rattle.std.specs.List.{list_any}
 use Rattle.std.specs.Option.{option_or}
 use Rattle.std.proofs.lemmas.List.{length-map}
@@ -12,9 +12,8 @@ use Rattle.helios_model.specs.Limits.{most_items, most_open}
 use Rattle.helios_model.specs.Ids.{same_version}
 use Rattle.helios_model.specs.Texts.{all_differ, same_text}
 use Rattle.helios_model.specs.Transactions.{Asking, conflict, keys_conflict, touched_by, touched_by_ask}
-use Rattle.helios_model.specs.Plans.{PlanData}
 use Rattle.helios_model.specs.Log.{current, unfinished}
-use Rattle.helios_model.specs.Node.{Node, clock, next_time, own_open}
+use Rattle.helios_model.specs.Node.{Node, own_open}
 use Rattle.helios_model.specs.Request.{asked, clash, clash_refusal, refusal, room_refusal, stale_read, stale_refusal, write_at}
 use Rattle.helios_model.specs.Serial.{Follows}
 use Rattle.protocol_laws.specs.Order.{IsAsked}
@@ -59,9 +58,6 @@ follows_asked log id ask none = record {
       ask.reads (find_none (λ r. not (same_version r.version (current log r.key))) ask.reads none);
   writes = All-map (λ w. w.over ≡ current log w.key) (write_at log) ask.puts (λ k d low. refl);
 }
-
-pub next_own_above : (plan : PlanData) (n : Node) (reading : ℕ) → clock plan n < next_time plan n reading
-next_own_above plan n reading = omega arith
 
 -- where a request is not refused, there is room, each read is of the current version, and no unfinished transaction conflicts
 pub record IsFree (n : Node) (ask : Asking) : Type 0 where

@@ -44,7 +44,8 @@ use Rattle.protocol_laws.proofs.Sequences.{mem_from_contains, mem_left}
 use Rattle.protocol_laws.proofs.KnownRecords.{home}
 use Rattle.protocol_laws.proofs.ReachedClusters.{each_cluster_is_honest, each_cluster_is_kept}
 use Rattle.protocol_laws.proofs.Placed.{placed_advanced, placed_arrived, placed_commits, placed_entered, placed_entry}
-use Rattle.protocol_laws.proofs.Asks.{free_asked, next_own_above, unrefused_free}
+use Rattle.protocol_laws.proofs.Asks.{free_asked, unrefused_free}
+use Rattle.protocol_laws.proofs.NodeRules.{next_above}
 use Rattle.protocol_laws.proofs.Chains.{IsShown, shown_arrived, shown_clock, shown_commit, shown_entered, shown_sent}
 
 -- no step is of a number that is no site, so its log stays empty
@@ -96,7 +97,7 @@ ready_still plan n p q apart h = record {
       (h.waited j low other);
 }
 
-reached_waited : (plan : PlanData) (n : Node) (time : ℕ) → is_reached plan n time ≡ true → (j : ℕ) → j < count_of plan → j ≢ n.site
+pub reached_waited : (plan : PlanData) (n : Node) (time : ℕ) → is_reached plan n time ≡ true → (j : ℕ) → j < count_of plan → j ≢ n.site
     → is_past plan n.site j time (known plan n n.site j) ≡ true
 reached_waited plan n time reached j low apart =
     let here : get_or (range_with_len 0 (count_of plan)) j 0 ≡ j = get_or-range_with_len 0 (count_of plan) j 0 low ∙ omega arith in
@@ -113,7 +114,7 @@ reached_waited plan n time reached j low apart =
     by_side (inr past) = past
 
 -- the ready ones, in log order
-abbrev ready_ones : PlanData → Node → List Transaction
+abbrev pub ready_ones : PlanData → Node → List Transaction
 ready_ones plan n = filter (λ p. is_reached plan n p.id.time) (own_open n)
 
 are_ready : (plan : PlanData) (n : Node) → All (IsReady plan n) (ready_ones plan n)
@@ -211,7 +212,7 @@ module _ (plan : PlanData) (w : Cluster) where
   request_shown n reading ask letters placed low shown None none =
       settle_shown (entered plan n (asked n.log (next_id plan n reading) ask)) letters
       (placed_entered plan n.site n (asked n.log (next_id plan n reading) ask) placed) low
-      (shown_entered plan w n letters placed low shown (asked n.log (next_id plan n reading) ask) refl (next_own_above plan n reading)
+      (shown_entered plan w n letters placed low shown (asked n.log (next_id plan n reading) ask) refl (next_above plan n reading)
       (free_asked n (next_id plan n reading) ask (unrefused_free n ask none)))
 
   advanced_shown : (n : Node) (reading : ℕ) (letters : List Letter) → IsPlaced plan n.site n → n.site < count_of plan

@@ -44,9 +44,12 @@ pub mod Ceilings
 pub mod WorldGrowth
 pub mod Later
 pub mod SentMessages
+pub mod WorldLaws
+pub mod LaterWorlds
 pub mod JournalLaws
 pub mod AskedNodes
 pub mod SpelledMessages
 pub mod Spelling
 pub mod ToldReplies
 pub mod ToldLaws
+pub mod Waiting

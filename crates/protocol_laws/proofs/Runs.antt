@@ -1,7 +1,7 @@
 -- Each world that steps reach is, as a cluster, reached by small steps.
-use Rattle.std.proofs.Common.{◌≡◌, ◌≢◌, ◌∙◌, ap, refl, sym, subst, ℕ, ◌+◌, ◌*◌, ◌<◌, ◌≤◌, true, ◌⊎◌, inl, inr, List, [], ◌∷◌, ◌++◌, get_or, length, replicate, filter, filter_map, flat_map, All, arith}
+use Rattle.std.proofs.Common.{◌≡◌, ◌≢◌, ◌∙◌, ap, refl, sym, subst, ℕ, ◌<◌, ◌≤◌, true, ◌⊎◌, inl, inr, List, [], ◌∷◌, ◌++◌, length, replicate, filter, filter_map, flat_map, All, arith}
 use Rattle.std.proofs.Math.Seq.{drop-append_seam}
-use Rattle.std.proofs.lemmas.List.{append-nil, append_cancel_left, get_or-replicate, get_or_past, length-replicate, map-append}
+use Rattle.std.proofs.lemmas.List.{append-nil, append_cancel_left, get_or_past, length-replicate, map-append}
 use Rattle.std.proofs.lemmas.List.Elements.{All-nil, All-weaker, filter-append}
 use Rattle.std.proofs.lemmas.Bool.{cases_eq, cases_lt}
 use Rattle.helios_model.specs.declared.entries.Entry.{Entry}
@@ -29,7 +29,7 @@ use Rattle.protocol_laws.proofs.Committed.{commits_grown}
 use Rattle.protocol_laws.proofs.Sequences.{mem_from_contains, mem_left}
 use Rattle.protocol_laws.proofs.Worlds.{first_entries, first_journals, journals_stay, kept_elsewhere, kept_here}
 use Rattle.protocol_laws.proofs.Placed.{node_placed, placed_entries}
-use Rattle.protocol_laws.proofs.NodeRules.{node_steady}
+use Rattle.protocol_laws.proofs.NodeRules.{empty_known, node_steady}
 use Rattle.protocol_laws.proofs.WorldGrowth.{GoesOn, entries_go}
 use Rattle.protocol_laws.proofs.Later.{IsLater, later_itself, later_on, later_same}
 use Rattle.protocol_laws.proofs.Views.{within_nothing}
@@ -61,13 +61,6 @@ events_gained site log after history events backed grows own before now =
     ∙ ap (λ es. filter (is_own_commit site) history ++ es) (keeps_all (is_own_commit site) events own)
     ∙ ap (λ es. es ++ events) before)
 
-nothing_at : (n i : ℕ) → get_or {A = ℕ} (replicate n 0) i 0 ≡ 0
-nothing_at n i = by_place (cases_lt i n)
-  where
-    by_place : (i < n) ⊎ (n ≤ i) → get_or {A = ℕ} (replicate n 0) i 0 ≡ 0
-    by_place (inl low) = get_or-replicate n i 0 0 low
-    by_place (inr high) = get_or_past (replicate n 0) i 0 (rw length-replicate high)
-
 first_entries_none : (plan : PlanData) (k : ℕ) → entries_of (first_world plan) k ≡ []
 first_entries_none plan k = by_site (cases_lt k (count_of plan))
   where
@@ -79,7 +72,7 @@ pub first_reached : (plan : PlanData) → IsReached plan (cluster_of plan (first
 first_reached plan = Begun (record {
   log = λ i. ap (λ es. (after_entries plan (empty_node plan i) es).log) (first_entries_none plan i);
   tab = λ i a b. ap (λ es. table_of plan (after_entries plan (empty_node plan i) es) a b) (first_entries_none plan i)
-      ∙ ap (within (count_of plan) a b) (nothing_at (count_of plan * count_of plan) (a * count_of plan + b))
+      ∙ ap (within (count_of plan) a b) (empty_known plan i a b)
       ∙ within_nothing (count_of plan) a b;
   sent = refl;
   history = refl;

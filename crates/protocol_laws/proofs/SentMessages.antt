@@ -11,10 +11,11 @@ use Rattle.helios_model.specs.Node.{Node, is_spent}
 use Rattle.helios_model.specs.Request.{asked, next_id, refusal}
 use Rattle.helios_model.specs.Messages.{advanced, message_to}
 use Rattle.helios_model.specs.Step.{MayBeAsked, after_entry, by_clock, is_journaled, step}
-use Rattle.helios_model.specs.World.{World, Event, MayHappen, MayRun, first_world, happens, message_in, messages_in, node_of, replies, run}
+use Rattle.helios_model.specs.World.{World, Event, MayHappen, happens, message_in, messages_in, node_of, replies}
 use Rattle.helios_model.specs.World.Event.{Batch, Restart}
 use Rattle.helios_model.specs.World.Ending.{Done, Kept, Lost}
 use Rattle.protocol_laws.specs.Reached.{InEachWorld}
+use Rattle.protocol_laws.proofs.JournalLaws.{in_each}
 use Rattle.protocol_laws.proofs.Inputs.{refusal_silent, request_silent}
 
 abbrev pub AreForSites : PlanData → List Message → Type 0
@@ -54,9 +55,6 @@ sent_happens plan w (Batch site entries Kept) h may = h
 sent_happens plan w (Batch site entries Lost) h may = h
 sent_happens plan w (Restart site) h may = h
 
-sent_run : (plan : PlanData) (w : World) (events : List Event) → AreForSites plan w.sent → MayRun plan w events → AreForSites plan (run plan w events).sent
-sent_run plan w [] h may = h
-sent_run plan w (e ∷ es) h may = sent_run plan (happens plan w e) es (sent_happens plan w e h may.0) may.1
-
 pub sent_to_sites : InEachWorld (λ plan w. AreForSites plan w.sent)
-sent_to_sites plan events may = sent_run plan (first_world plan) events (All-nil (λ m. m.to < count_of plan)) may
+sent_to_sites plan events may =
+    in_each plan (λ w. AreForSites plan w.sent) (All-nil (λ m. m.to < count_of plan)) (λ w e journals happens_so h. sent_happens plan w e h happens_so) events may

@@ -1,12 +1,12 @@
 -- Entries of tables, looked up within the plan.
-use Rattle.std.proofs.Common.{◌≡◌, ◌≢◌, ◌∙◌, ap, refl, sym, ℕ, ◌+◌, ◌*◌, ◌/◌, ◌%◌, ◌<◌, ◌≤◌, Bool, true, false, ◌&&◌, ◌⊎◌, inl, inr, cond, nat_eq, nat_lt, max, List, length, get_or, arith}
+use Rattle.std.proofs.Common.{◌≡◌, ◌≢◌, ◌∙◌, ap, refl, ℕ, ◌+◌, ◌*◌, ◌<◌, ◌≤◌, Bool, true, false, ◌&&◌, ◌⊎◌, inl, inr, cond, nat_eq, nat_lt, max, List, length, get_or, arith}
 use Rattle.std.proofs.lemmas.Bool.{and_from, and_parts, cases_Bool, cond-true, lt-ltb, ltb-true, eq-eqb, ne_eqb}
 use Rattle.std.proofs.lemmas.List.{get_or-set_same, get_or-set_other}
-use Rattle.std.proofs.lemmas.List.FromFn.{get_or-map-range_with_len}
-use Rattle.std.proofs.lemmas.Nat.{div-mul-add, mod-mul-add, mul-add-lt}
+use Rattle.std.proofs.lemmas.Nat.{mul-add-lt}
 use Rattle.helios_model.specs.Grid.{at, put}
-use Rattle.helios_model.specs.Exchange.{merged, merged_at}
+use Rattle.helios_model.specs.Exchange.{merged}
 use Rattle.protocol_laws.specs.Views.{within, table_in, cover_in}
+use Rattle.protocol_laws.proofs.Grids.{merged_there, same_place}
 
 pub within_inside : (count a b time : ℕ) → a < count → b < count → within count a b time ≡ time
 within_inside count a b time row column =
@@ -42,13 +42,6 @@ within_nothing count a b = by_test (nat_lt a count && nat_lt b count)
     by_test true = refl
     by_test false = refl
 
--- two places of a square are two entries
-places_apart : (count a b c d : ℕ) → b < count → d < count → (a ≢ c) ⊎ (b ≢ d) → a * count + b ≢ c * count + d
-places_apart count a b c d b_low d_low (inl rows) same =
-    rows (sym (div-mul-add a count b b_low) ∙ ap (λ place. place / count) same ∙ div-mul-add c count d d_low)
-places_apart count a b c d b_low d_low (inr columns) same =
-    columns (sym (mod-mul-add a count b b_low) ∙ ap (λ place. place % count) same ∙ mod-mul-add c count d d_low)
-
 pub put_here : (count : ℕ) (table : List ℕ) (s time : ℕ) → s < count → length table ≡ count * count → table_in count (put count table s s time) s s ≡ time
 put_here count table s time low sized =
     let place : s * count + s < count * count = mul-add-lt s count s count low low in
@@ -59,23 +52,18 @@ pub put_other : (count : ℕ) (table : List ℕ) (s time a b : ℕ) → s < coun
     → table_in count (put count table s s time) a b ≡ table_in count table a b
 put_other count table s time a b low apart =
     within_same count a b (at count (put count table s s time) a b) (at count table a b)
-    (λ row column. get_or-set_other table (s * count + s) (a * count + b) time 0 (places_apart count a b s s column low apart))
-
--- an entry of a merged table
-pub at_merged : (count own : ℕ) (table theirs cover : List ℕ) (a b : ℕ) → a < count → b < count
-    → at count (merged count own table theirs cover) a b ≡ merged_at count own table theirs cover a b
-at_merged count own table theirs cover a b row column =
-    let place : a * count + b < count * count = mul-add-lt a count b count row column in
-    get_or-map-range_with_len (λ p. merged_at count own table theirs cover (p / count) (p % count)) 0 (count * count) (a * count + b) (a * count + b) 0 place (omega arith)
-    ∙ ap (λ x. merged_at count own table theirs cover x ((a * count + b) % count)) (div-mul-add a count b column)
-    ∙ ap (λ y. merged_at count own table theirs cover a y) (mod-mul-add a count b column)
+    (λ row column. get_or-set_other table (s * count + s) (a * count + b) time 0 (λ same. by_side apart (same_place count a b s s column low same)))
+  where
+    by_side : (a ≢ s) ⊎ (b ≢ s) → (a ≡ s) × (b ≡ s) → ⊥
+    by_side (inl rows) same = rows same.0
+    by_side (inr columns) same = columns same.1
 
 -- the site's own time is not touched by a merge
 pub merged_clock : (count own : ℕ) (table theirs cover : List ℕ) → table_in count (merged count own table theirs cover) own own ≡ table_in count table own own
 merged_clock count own table theirs cover =
     within_same count own own (at count (merged count own table theirs cover) own own) (at count table own own) (λ row column.
     let same : nat_eq own own ≡ true = eq-eqb own own refl in
-    at_merged count own table theirs cover own own row column ∙ rw same refl)
+    merged_there count own table theirs cover own own row column ∙ rw same refl)
 
 -- its row goes up to the cover
 pub merged_row : (count own : ℕ) (table theirs cover : List ℕ) (k : ℕ) → own < count → k ≢ own
@@ -84,7 +72,7 @@ merged_row count own table theirs cover k low apart =
     within_same count own k (at count (merged count own table theirs cover) own k) (max (at count table own k) (get_or cover k 0)) (λ row column.
     let same : nat_eq own own ≡ true = eq-eqb own own refl in
     let other : nat_eq k own ≡ false = ne_eqb k own apart in
-    at_merged count own table theirs cover own k row column ∙ rw (same, other) refl)
+    merged_there count own table theirs cover own k row column ∙ rw (same, other) refl)
     ∙ within_max count own k (at count table own k) (get_or cover k 0)
     ∙ ap (max (table_in count table own k)) (by_column (cases_Bool (nat_lt k count)))
   where
@@ -98,5 +86,5 @@ pub merged_rows : (count own : ℕ) (table theirs cover : List ℕ) (a k : ℕ) 
 merged_rows count own table theirs cover a k apart =
     within_same count a k (at count (merged count own table theirs cover) a k) (max (at count table a k) (at count theirs a k)) (λ row column.
     let other : nat_eq a own ≡ false = ne_eqb a own apart in
-    at_merged count own table theirs cover a k row column ∙ rw other refl)
+    merged_there count own table theirs cover a k row column ∙ rw other refl)
     ∙ within_max count a k (at count table a k) (at count theirs a k)

@@ -1,8 +1,10 @@
 //! Each law is carried by a function with an empty body, whose one clause states it of every plan and every list of
 //! steps.
 ghost use Rattle.protocol_laws.specs.Told.{EachToldIsTrue, EachSentIsTold, EachSentIsMessage, EachToldStands};
-ghost use Rattle.protocol_laws.specs.Logs.{EachTimeRises};
-ghost use Rattle.protocol_laws.specs.Histories.{EachWorldGrows, EachRefusalIsNamed};
+ghost use Rattle.protocol_laws.specs.Logs.{EachTimeRises, EachIdIsGivenOnce, EachEndingFollows, EachVersionWasCurrent, EachCommitWaited, EachConflictIsOrdered};
+ghost use Rattle.protocol_laws.specs.Histories.{EachWorldGrows, EachRefusalIsNamed, EachHistoryIsCommits, HistoryIsSerial};
+ghost use Rattle.protocol_laws.specs.Later.{EachTimeIsKept, EachIdStaysGiven};
+ghost use Rattle.protocol_laws.specs.ManySites.{EachWorldIsHonest, EachSentEndIsTaken, EachWorldIsOrdered, EachAbortIsCaused, EachCommitIsEvent};
 ghost use Rattle.protocol_laws.specs.Ceiling.{EachNodeStaysBelow};
 ghost use Rattle.protocol_laws.specs.Placed.{EachNodeIsPlaced};
 ghost use Rattle.protocol_laws.specs.Moves.{BatchMovesOneNode};
@@ -97,4 +99,87 @@ pub fn each_told_stands()
 /// in the site's log just before the input, and the conflicting transaction was unfinished there.
 pub fn each_refusal_is_named()
     ensures { EachRefusalIsNamed }
+{}
+
+/// What sites know of each other is so. No table of times says more of another site than that site's own row; a site's log
+/// has, in order, exactly the records of each origin up to the time in its own row, and before each of them what stands
+/// before it in its origin's log; and each message that was sent tells its receiver no more than is so, with exactly the
+/// records that it says, and with what stands before them or is known to be there.
+pub fn each_world_is_honest()
+    ensures { EachWorldIsHonest }
+{}
+
+/// As a site takes a message that was sent to it, no Commit or Abort in it is passed over for want of its Prepare.
+pub fn each_sent_end_is_taken()
+    ensures { EachSentEndIsTaken }
+{}
+
+/// What a site makes in any later world is above each time that a message which was sent by now gives for the site: in any
+/// row of its table, in its cover, and in its records and the ids that they name.
+pub fn each_time_is_kept()
+    ensures { EachTimeIsKept }
+{}
+
+/// No two Prepares of a log have one id, and Prepares of one id in two logs are the same Prepare.
+pub fn each_id_is_given_once()
+    ensures { EachIdIsGivenOnce }
+{}
+
+/// An id that a Prepare of any log has is given to no other transaction in any later world.
+pub fn each_id_stays_given()
+    ensures { EachIdStaysGiven }
+{}
+
+/// Each Commit and each Abort stands behind the Prepare of its id, has a time above the time of that id, and is the only
+/// one of the log that ends that id.
+pub fn each_ending_follows()
+    ensures { EachEndingFollows }
+{}
+
+/// Where a site took a transaction, each version that it read or overwrites was the current one in the log so far.
+pub fn each_version_was_current()
+    ensures { EachVersionWasCurrent }
+{}
+
+/// Each own Commit of a log waited: by the site's table as it stood at the Commit, the site knew every other site up to the
+/// time of the id and the offset between them; and by the table of today it still does.
+pub fn each_commit_waited()
+    ensures { EachCommitWaited }
+{}
+
+/// No Prepare behind an own unfinished transaction conflicts with it. Of two that conflict, of which the later one is own
+/// or the earlier one is own and is never aborted, the earlier one has its Commit or Abort before the later one's Prepare.
+pub fn each_conflict_is_ordered()
+    ensures { EachConflictIsOrdered }
+{}
+
+/// Of two transactions that conflict in a log, of which the later one is own or the earlier one is own and is never aborted,
+/// the earlier one ends before the later one is taken; and before an own Commit stands each record that another site made
+/// up to the time of the id and the offset from this site to that one.
+pub fn each_world_is_ordered()
+    ensures { EachWorldIsOrdered }
+{}
+
+/// The events of the history that are of one site are, in order, the own Commits of that site's log, and each event is of
+/// one of the plan's sites.
+pub fn each_history_is_commits()
+    ensures { EachHistoryIsCommits }
+{}
+
+/// The history and the Commits of all logs are the same transactions: a Commit in any log is that of an event, whose Prepare
+/// stands before it; no event is aborted in any log; and each version that a Prepare in a log or in a sent message names is
+/// `Initial`, or that of an event which writes the key.
+pub fn each_commit_is_event()
+    ensures { EachCommitIsEvent }
+{}
+
+/// In each world of an accepted plan the history is a serial history that gives every version read.
+pub fn history_is_serial()
+    ensures { HistoryIsSerial }
+{}
+
+/// Each Abort in any log names a transaction of another site that conflicts with the aborted one. Its Prepare stands before
+/// the Abort in the log of the aborted one's site, and in the log of its own site.
+pub fn each_abort_is_caused()
+    ensures { EachAbortIsCaused }
 {}
