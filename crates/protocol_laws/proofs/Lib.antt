@@ -53,3 +53,4 @@ pub mod Spelling
 pub mod ToldReplies
 pub mod ToldLaws
 pub mod Waiting
+pub mod Safe

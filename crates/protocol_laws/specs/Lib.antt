@@ -22,3 +22,4 @@ pub mod Knowledge
 pub mod ManySites
 pub mod Later
 pub mod Told
+pub mod Safe

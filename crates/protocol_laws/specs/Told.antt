@@ -24,6 +24,7 @@ use Rattle.helios_model.specs.declared.records.CommitEvent.{CommitEvent}
 use Rattle.helios_model.specs.declared.records.Record.{Record}
 use Rattle.helios_model.specs.declared.transactions.ReadItem.{ReadItem}
 use Rattle.protocol_laws.specs.Reached.{InEachWorld}
+use Rattle.protocol_laws.specs.Later.{AfterEachWorld}
 
 -- the transaction that a site was asked for over the records before is that of the id in its log, and the id is the site's
 pub record IsTaken (site : ℕ) (before log : List Record) (ask : Asking) (id : TxnId) : Type 0 where
@@ -171,3 +172,11 @@ ToldStands plan w t = StandsTo w.history (take t.log_length (node_of plan w t.si
 -- so it is in the world of the reply, and, as what was told stays told, in every later one
 abbrev pub EachToldStands : Type 0
 EachToldStands = InEachWorld (λ plan w. All (ToldStands plan w) w.told)
+
+-- a told reply is true of a world, and what it says of commits stands in it
+abbrev pub ToldHolds : PlanData → World → Told → Type 0
+ToldHolds plan w t = ToldIsTrue plan w t × ToldStands plan w t
+
+-- what was told holds in every later world
+abbrev pub EachToldStays : Type 0
+EachToldStays = AfterEachWorld (λ plan w v. All (ToldHolds plan v) w.told)

@@ -1,6 +1,7 @@
 //! Each law is carried by a function with an empty body, whose one clause states it of every plan and every list of
 //! steps.
-ghost use Rattle.protocol_laws.specs.Told.{EachToldIsTrue, EachSentIsTold, EachSentIsMessage, EachToldStands};
+ghost use Rattle.protocol_laws.specs.Safe.{EachWorldIsSafe};
+ghost use Rattle.protocol_laws.specs.Told.{EachToldIsTrue, EachSentIsTold, EachSentIsMessage, EachToldStands, EachToldStays};
 ghost use Rattle.protocol_laws.specs.Logs.{EachTimeRises, EachIdIsGivenOnce, EachEndingFollows, EachVersionWasCurrent, EachCommitWaited, EachConflictIsOrdered};
 ghost use Rattle.protocol_laws.specs.Histories.{EachWorldGrows, EachRefusalIsNamed, EachHistoryIsCommits, HistoryIsSerial};
 ghost use Rattle.protocol_laws.specs.Later.{EachTimeIsKept, EachIdStaysGiven};
@@ -182,4 +183,15 @@ pub fn history_is_serial()
 /// the Abort in the log of the aborted one's site, and in the log of its own site.
 pub fn each_abort_is_caused()
     ensures { EachAbortIsCaused }
+{}
+
+/// What was told holds in every later world: it is true of the records that the site's log had then, and what it says of commits stands.
+pub fn each_told_stays()
+    ensures { EachToldStays }
+{}
+
+/// In each world of an accepted plan the history is a serial history that gives every version read, each refusal and each Abort
+/// names what stood in its way, each told reply is true and stands, tables and messages are honest, and conflicts are in order.
+pub fn each_world_is_safe()
+    ensures { EachWorldIsSafe }
 {}

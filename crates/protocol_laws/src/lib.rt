@@ -10,6 +10,6 @@ pub use laws::{
     each_node_is_placed, each_node_stays_below, each_record_is_spellable, each_refusal_is_named,
     each_reply_is_spellable, each_sent_end_is_taken, each_sent_is_message, each_sent_is_told,
     each_table_is_small, each_time_is_kept, each_time_rises, each_told_is_true, each_told_stands,
-    each_version_was_current, each_world_grows, each_world_is_honest, each_world_is_ordered,
-    history_is_serial,
+    each_told_stays, each_version_was_current, each_world_grows, each_world_is_honest,
+    each_world_is_ordered, each_world_is_safe, history_is_serial,
 };
