@@ -57,7 +57,7 @@ step_end site r a no_prepare =
 step_prepare : (site : ℕ) (p : Transaction) (a : Intake) → p.id.site ≢ site → IsStepOf site (Prepare p) a (take_prepare site a p)
 step_prepare site p a apart =
     let ids : List TxnId = clashing site a.log p in
-    let s : IsRun ids (with_taken a (Prepare p)) (take_prepare site a p) = runs (λ id time. Abort id time p.id) ids (with_taken a (Prepare p)) (aborts_end p.id) in
+    let s : IsRun (λ id time. Abort id time p.id) ids (with_taken a (Prepare p)) (take_prepare site a p) = runs (λ id time. Abort id time p.id) ids (with_taken a (Prepare p)) (aborts_end p.id) in
     let only : p ∷ prepares s.more ≡ p ∷ [] = ap (λ ps. p ∷ ps) s.no_prepares in
     let foreign : All (λ q. is_own site q ≡ false) (prepares (Prepare p ∷ s.more)) =
     subst (All (λ q. is_own site q ≡ false)) (sym only)

@@ -30,7 +30,7 @@ pub record IsNoHigher (site : ℕ) (a b : Intake) : Type 0 where
 settle_no_higher : (plan : PlanData) (n : Node) → IsInside plan n → IsNoHigher n.site (intake_of plan n) (intake_of plan (settle plan n))
 settle_no_higher plan n h =
     let b : Intake = fold (end_one commit) (intake_of plan n) (ready plan n) in
-    let s : IsRun (ready plan n) (intake_of plan n) b = runs commit (ready plan n) (intake_of plan n) commits_end in
+    let s : IsRun commit (ready plan n) (intake_of plan n) b = runs commit (ready plan n) (intake_of plan n) commits_end in
     let foreign : All (λ p. is_own n.site p ≡ false) (prepares s.more) =
     subst (All (λ p. is_own n.site p ≡ false)) (sym s.no_prepares) (All-nil (λ p. is_own n.site p ≡ false)) in
     let ended : length (own_unfinished n.site (n.log ++ s.more)) + length (ready plan n) ≤ length (own_unfinished n.site n.log) =

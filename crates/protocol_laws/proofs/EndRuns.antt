@@ -50,27 +50,32 @@ aborts_end cause = record {
   backed = λ log id time found. found;
 }
 
+abbrev pub IsMadeBy : (TxnId → ℕ → Record) → Record → Type 0
+IsMadeBy make r = (id : TxnId) × (time : ℕ) × (r ≡ make id time)
+
 -- ends of each of these ids are added, and the clock counts them
-pub record IsRun (ids : List TxnId) (a b : Intake) : Type 0 where
+pub record IsRun (make : TxnId → ℕ → Record) (ids : List TxnId) (a b : Intake) : Type 0 where
   pub more : List Record
   pub grown : b.log ≡ a.log ++ more
   pub clock : b.clock ≡ a.clock + length ids
   pub named : All (λ r. Contains ids (id_of r)) more
+  pub made : All (IsMadeBy make) more
   pub ended : All (λ id. finished more id ≡ true) ids
   pub no_prepares : prepares more ≡ []
 
-pub runs : (make : TxnId → ℕ → Record) (ids : List TxnId) (a : Intake) → MakesEnds make → IsRun ids a (fold (end_one make) a ids)
+pub runs : (make : TxnId → ℕ → Record) (ids : List TxnId) (a : Intake) → MakesEnds make → IsRun make ids a (fold (end_one make) a ids)
 runs make [] a m = record {
   more = [];
   grown = sym (append-nil a.log);
   clock = omega arith;
   named = All-nil (λ r. Contains [] (id_of r));
+  made = All-nil (IsMadeBy make);
   ended = All-nil (λ id. finished [] id ≡ true);
   no_prepares = refl;
 }
 runs make (id ∷ ids) a m =
     let one : Record = make id (a.clock + 1) in
-    let rest : IsRun ids (end_one make a id) (fold (end_one make) (end_one make a id) ids) = runs make ids (end_one make a id) m in
+    let rest : IsRun make ids (end_one make a id) (fold (end_one make) (end_one make a id) ids) = runs make ids (end_one make a id) m in
     let last : (fold (end_one make) (end_one make a id) ids).clock ≡ (a.clock + 1) + length ids = rest.clock in
     record {
       more = one ∷ rest.more;
@@ -78,6 +83,7 @@ runs make (id ∷ ids) a m =
       clock = omega arith;
       named = All-cons (λ r. Contains (id ∷ ids) (id_of r)) one rest.more (subst (Contains (id ∷ ids)) (sym (m.named id (a.clock + 1))) (contains_here id ids))
           (All-weaker (λ r. Contains ids (id_of r)) (λ r. Contains (id ∷ ids) (id_of r)) (λ r there. contains_later id ids (id_of r) there) rest.more rest.named);
+      made = All-cons (IsMadeBy make) one rest.more (id, a.clock + 1, refl) rest.made;
       ended = All-cons (λ x. finished (one ∷ rest.more) x ≡ true) id ids (or_left (ends id one) (finished rest.more id) (m.ending id (a.clock + 1)))
           (All-weaker (λ x. finished rest.more x ≡ true) (λ x. finished (one ∷ rest.more) x ≡ true)
           (λ x done. or_right (ends x one) (finished rest.more x) done) ids rest.ended);

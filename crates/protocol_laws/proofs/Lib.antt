@@ -50,5 +50,8 @@ pub mod JournalLaws
 pub mod AskedNodes
 pub mod SpelledMessages
 pub mod Spelling
+pub mod ToldReplies
+pub mod ToldLaws
 pub mod Waiting
 pub mod OneSite
+pub mod Safe

@@ -111,7 +111,7 @@ patient_settled plan n h = record {
       (all_from (IsWaited plan (settle plan n)) its.more (λ r there. new_waited r (All-contains (λ x. Contains (ready plan n) (id_of x)) its.more r its.named there))));
 }
   where
-    its : IsRun (ready plan n) (intake_of plan n) (fold (λ a id. record { log = a.log ++ commit id (a.clock + 1) ∷ []; clock = a.clock + 1 }) (intake_of plan n) (ready plan n))
+    its : IsRun commit (ready plan n) (intake_of plan n) (fold (λ a id. record { log = a.log ++ commit id (a.clock + 1) ∷ []; clock = a.clock + 1 }) (intake_of plan n) (ready plan n))
     its = runs commit (ready plan n) (intake_of plan n) commits_end
 
     grown : (settle plan n).log ≡ n.log ++ its.more

@@ -21,3 +21,5 @@ pub mod ReachedClusters
 pub mod Knowledge
 pub mod ManySites
 pub mod Later
+pub mod Told
+pub mod Safe

@@ -1,9 +1,11 @@
 //! Each law is carried by a function with an empty body, whose one clause states it of every plan and every list of
 //! steps.
+ghost use Rattle.protocol_laws.specs.Safe.{EachWorldIsSafe};
+ghost use Rattle.protocol_laws.specs.Told.{EachToldIsTrue, EachSentIsTold, EachSentIsMessage, EachToldStands, EachToldStays};
+ghost use Rattle.protocol_laws.specs.Logs.{EachTimeRises, EachIdIsGivenOnce, EachEndingFollows, EachVersionWasCurrent, EachCommitWaited, EachConflictIsOrdered};
+ghost use Rattle.protocol_laws.specs.Histories.{EachWorldGrows, EachRefusalIsNamed, EachHistoryIsCommits, HistoryIsSerial, SerialAtOneSite};
 ghost use Rattle.protocol_laws.specs.Later.{EachTimeIsKept, EachIdStaysGiven};
 ghost use Rattle.protocol_laws.specs.ManySites.{EachWorldIsHonest, EachSentEndIsTaken, EachWorldIsOrdered, EachAbortIsCaused, EachCommitIsEvent};
-ghost use Rattle.protocol_laws.specs.Logs.{EachTimeRises, EachIdIsGivenOnce, EachEndingFollows, EachVersionWasCurrent, EachCommitWaited, EachConflictIsOrdered};
-ghost use Rattle.protocol_laws.specs.Histories.{EachWorldGrows, EachHistoryIsCommits, HistoryIsSerial, SerialAtOneSite};
 ghost use Rattle.protocol_laws.specs.Ceiling.{EachNodeStaysBelow};
 ghost use Rattle.protocol_laws.specs.Placed.{EachNodeIsPlaced};
 ghost use Rattle.protocol_laws.specs.Moves.{BatchMovesOneNode};
@@ -69,6 +71,35 @@ pub fn each_record_is_spellable()
 /// In each world of an accepted plan each reply that was told has a spelling, and with it each message that was sent.
 pub fn each_reply_is_spellable()
     ensures { EachReplyIsSpellable }
+{}
+
+/// Each told reply is true of the first records of its site's log, as many as the log had just before the input: the current
+/// version and value of a key, what is known of a transaction, the stale read or the unfinished transaction that stood in the
+/// way, and the message that the site sent. What was told as taken or committed stands in the site's log under the told id.
+pub fn each_told_is_true()
+    ensures { EachToldIsTrue }
+{}
+
+/// The messages that were sent are those of the told replies, in their order.
+pub fn each_sent_is_told()
+    ensures { EachSentIsTold }
+{}
+
+/// In each world of an accepted plan each message that was sent is of the plan's count and has a spelling.
+pub fn each_sent_is_message()
+    ensures { EachSentIsMessage }
+{}
+
+/// What was told as committed, and each version that was told, also in a message, is that of an event of the history, then
+/// and in every later world; what was told as aborted is that of no event, then and later.
+pub fn each_told_stands()
+    ensures { EachToldStands }
+{}
+
+/// Each told refusal names what stood in its way: the current version is that of an event of the history whose Commit stood
+/// in the site's log just before the input, and the conflicting transaction was unfinished there.
+pub fn each_refusal_is_named()
+    ensures { EachRefusalIsNamed }
 {}
 
 /// What sites know of each other is so. No table of times says more of another site than that site's own row; a site's log
@@ -157,4 +188,15 @@ pub fn serial_at_one_site()
 /// the Abort in the log of the aborted one's site, and in the log of its own site.
 pub fn each_abort_is_caused()
     ensures { EachAbortIsCaused }
+{}
+
+/// What was told holds in every later world: it is true of the records that the site's log had then, and what it says of commits stands.
+pub fn each_told_stays()
+    ensures { EachToldStays }
+{}
+
+/// In each world of an accepted plan the history is a serial history that gives every version read, each refusal and each Abort
+/// names what stood in its way, each told reply is true and stands, tables and messages are honest, and conflicts are in order.
+pub fn each_world_is_safe()
+    ensures { EachWorldIsSafe }
 {}
