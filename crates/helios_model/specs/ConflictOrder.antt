@@ -1,5 +1,5 @@
--- Conflict order: of two transactions that conflict in a log, the one that comes first ends before the other is taken; and a
--- Commit comes only after all that the plan's offset lets another site have taken before it.
+-- Conflict order: of an own transaction that is not aborted and another one of that log which conflicts with it, the one that
+-- comes first ends before the other is taken; and an own Commit comes only after all that another site made up to the offset.
 use Rattle.std.specs.Prelude.{◌≡◌, ◌≢◌, Bool, true, false, ℕ, ◌<◌, List, ◌∷◌, ◌++◌, Contains}
 use Rattle.std.specs.List.{list_any}
 use Rattle.helios_model.specs.declared.ids.TxnId.{TxnId}

@@ -1,4 +1,4 @@
--- What a refusal of a request names: what stood in its way when the request was answered.
+-- What a refusal of a request and an Abort name: what stood in the way.
 use Rattle.std.specs.Prelude.{◌≡◌, ◌≢◌, true, false, ℕ, ◌<◌, List, ◌∷◌, ◌++◌, Contains, take}
 use Rattle.helios_model.specs.declared.ids.TxnId.{TxnId}
 use Rattle.helios_model.specs.declared.ids.Version.{Version}

@@ -7,7 +7,7 @@ use crate::records::Records;
 use std::alloc::{AllocError, Global};
 
 /// A message from one site to another one: the sender's table of times, row after row, in half microseconds; up to when it
-/// tells of each site, in half microseconds; and the records of the sender's log that the other site is not known to have.
+/// tells of each site, in half microseconds; and the first of the records that the other site is not known to have, at most 64.
 #[derive(Clone, Debug, Drop)]
 pub struct Message {
     pub from: SiteId,

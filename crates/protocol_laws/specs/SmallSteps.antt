@@ -12,7 +12,7 @@ use Rattle.protocol_laws.specs.Order.{IsAsked}
 use Rattle.helios_model.specs.Sequences.{Mem}
 use Rattle.protocol_laws.specs.Clusters.{Cluster, Letter}
 
--- a site's log and the history grow at their ends, its times do not fall, and nothing else changes
+-- a site's log and the history grow at their ends, and its times do not fall; the other sites' logs and times stay
 pub record Moves (w v : Cluster) (s : ℕ) (more : List Record) (events : List CommitEvent) : Type 0 where
   pub other_log : (i : ℕ) → i ≢ s → v.log i ≡ w.log i
   pub other_tab : (i a b : ℕ) → i ≢ s → v.tab i a b ≡ w.tab i a b
@@ -73,7 +73,7 @@ pub record Sends (w v : Cluster) (m : Letter) : Type 0 where
   pub sent : (x : Letter) → Mem x v.sent → Mem x w.sent ⊎ (x ≡ m)
   pub history : v.history ≡ w.history
 
--- steps are of the plan's sites; a step that changes nothing is a tick
+-- steps are of the plan's sites; a tick moves at most the site's own clock; what was sent may be lost at any step
 pub data SmallStep (plan : PlanData) (w v : Cluster) : Type 0 where
   Tick : (s : ℕ) → s < count_of plan → OwnMoves w v s [] [] → SmallStep plan w v
   Begin : (s : ℕ) → s < count_of plan → (p : Transaction) → Begins w v s p → SmallStep plan w v
