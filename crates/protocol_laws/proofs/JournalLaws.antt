@@ -1,3 +1,4 @@
+-- What all steps keep holds of each world that is reached; what is journaled and told may be asked.
 use Rattle.helios_model.specs.World.Event.{Batch, Restart}
 use Rattle.helios_model.specs.World.Ending.{Done, Kept, Lost}
 use Rattle.helios_model.specs.World.{World, Told, Event, MayHappen, MayRun, first_world, entries_of, node_of, journaled, kept, replies, happens, run}
