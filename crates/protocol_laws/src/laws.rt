@@ -10,7 +10,7 @@ ghost use Rattle.protocol_laws.specs.Ceiling.{EachNodeStaysBelow};
 ghost use Rattle.protocol_laws.specs.Placed.{EachNodeIsPlaced};
 ghost use Rattle.protocol_laws.specs.Moves.{BatchMovesOneNode};
 ghost use Rattle.protocol_laws.specs.Symmetry.{ConflictIsSymmetric};
-ghost use Rattle.protocol_laws.specs.Times.{AskedIsTransaction, EachEntryMayBeAsked, EachTableIsSmall, EachRecordIsSpellable, EachReplyIsSpellable};
+ghost use Rattle.protocol_laws.specs.Times.{AskedIsTransaction, EachEntryMayBeAsked, EachTableIsSmall, EachRecordIsSpellable, EachReplyIsSpellable, EachEntryIsSpellable};
 
 /// Conflict is the same from both sides.
 pub fn conflict_is_symmetric()
@@ -194,4 +194,9 @@ pub fn each_told_stays()
 /// names what stood in its way, each told reply is true and stands, tables and messages are honest, and conflicts are in order.
 pub fn each_world_is_safe()
     ensures { EachWorldIsSafe }
+{}
+
+/// Each entry of a site's journal is one that a journal keeps, and has a spelling where its reading is below 2^64.
+pub fn each_entry_is_spellable()
+    ensures { EachEntryIsSpellable }
 {}
