@@ -53,4 +53,5 @@ pub mod Spelling
 pub mod ToldReplies
 pub mod ToldLaws
 pub mod Waiting
+pub mod OneSite
 pub mod Safe

@@ -61,7 +61,7 @@ events_gained site log after history events backed grows own before now =
     ∙ ap (λ es. filter (is_own_commit site) history ++ es) (keeps_all (is_own_commit site) events own)
     ∙ ap (λ es. es ++ events) before)
 
-first_entries_none : (plan : PlanData) (k : ℕ) → entries_of (first_world plan) k ≡ []
+pub first_entries_none : (plan : PlanData) (k : ℕ) → entries_of (first_world plan) k ≡ []
 first_entries_none plan k = by_site (cases_lt k (count_of plan))
   where
     by_site : (k < count_of plan) ⊎ (count_of plan ≤ k) → entries_of (first_world plan) k ≡ []

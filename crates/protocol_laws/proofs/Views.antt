@@ -1,5 +1,5 @@
 -- Entries of tables, looked up within the plan.
-use Rattle.std.proofs.Common.{◌≡◌, ◌≢◌, ◌∙◌, ap, refl, ℕ, ◌+◌, ◌*◌, ◌<◌, ◌≤◌, Bool, true, false, ◌&&◌, ◌⊎◌, inl, inr, cond, nat_eq, nat_lt, max, List, length, get_or, arith}
+use Rattle.std.proofs.Common.{◌≡◌, ◌≢◌, ◌∙◌, ap, refl, ℕ, ◌+◌, ◌*◌, ◌<◌, Bool, true, false, ◌&&◌, ◌⊎◌, inl, inr, cond, nat_eq, nat_lt, max, List, length, get_or}
 use Rattle.std.proofs.lemmas.Bool.{and_from, and_parts, cases_Bool, cond-true, lt-ltb, ltb-true, eq-eqb, ne_eqb}
 use Rattle.std.proofs.lemmas.List.{get_or-set_same, get_or-set_other}
 use Rattle.std.proofs.lemmas.Nat.{mul-add-lt}
@@ -12,21 +12,14 @@ pub within_inside : (count a b time : ℕ) → a < count → b < count → withi
 within_inside count a b time row column =
     cond-true (nat_lt a count && nat_lt b count) time 0 (and_from (nat_lt a count) (nat_lt b count) (lt-ltb a count row) (lt-ltb b count column))
 
--- two times of two sites, compared within the plan alone
-pub within_pairs : (R : ℕ → ℕ → Type 0) → R 0 0 → (count a b x y : ℕ) → (a < count → b < count → R x y) → R (within count a b x) (within count a b y)
-within_pairs R zero_zero count a b x y h = by_test (nat_lt a count && nat_lt b count) refl
+pub within_same : (count a b x y : ℕ) → (a < count → b < count → x ≡ y) → within count a b x ≡ within count a b y
+within_same count a b x y h = by_test (nat_lt a count && nat_lt b count) refl
   where
-    by_test : (t : Bool) → (nat_lt a count && nat_lt b count) ≡ t → R (cond t x 0) (cond t y 0)
+    by_test : (t : Bool) → (nat_lt a count && nat_lt b count) ≡ t → cond t x 0 ≡ cond t y 0
     by_test true inside =
         let parts = and_parts (nat_lt a count) (nat_lt b count) inside in
         h (ltb-true a count parts.0) (ltb-true b count parts.1)
-    by_test false outside = zero_zero
-
-pub within_same : (count a b x y : ℕ) → (a < count → b < count → x ≡ y) → within count a b x ≡ within count a b y
-within_same = within_pairs (λ x y. x ≡ y) refl
-
-pub within_below : (count a b x y : ℕ) → (a < count → b < count → x ≤ y) → within count a b x ≤ within count a b y
-within_below = within_pairs (λ x y. x ≤ y) (omega arith)
+    by_test false outside = refl
 
 max_cond : (t : Bool) (x y : ℕ) → cond t (max x y) 0 ≡ max (cond t x 0) (cond t y 0)
 max_cond true x y = refl

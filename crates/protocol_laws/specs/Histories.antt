@@ -1,16 +1,28 @@
 -- What is told and committed: the serial history, the refusals that name their cause, and what stays.
-use Rattle.std.specs.Prelude.{◌≡◌, ℕ, ◌<◌, ◌≤◌, List, ◌++◌, length, filter, All}
+use Rattle.std.specs.Prelude.{◌≡◌, ℕ, ◌<◌, ◌≤◌, List, [], ◌∷◌, ◌++◌, length, filter, All}
 use Rattle.helios_model.specs.Plans.{PlanData, IsAccepted, count_of}
 use Rattle.helios_model.specs.Log.{commits}
 use Rattle.helios_model.specs.Node.{known}
 use Rattle.helios_model.specs.Serial.{IsSerial}
 use Rattle.helios_model.specs.NamedAbort.{ToldIsNamed}
-use Rattle.helios_model.specs.World.{World, Event, node_of, is_own_commit, run}
+use Rattle.helios_model.specs.World.{World, Event, MayRun, first_world, node_of, is_own_commit, run}
+use Rattle.helios_model.specs.World.Event.{Batch, Restart}
 use Rattle.protocol_laws.specs.Reached.{InEachWorld}
 
 -- the history is a serial one in each world of an accepted plan
 abbrev pub HistoryIsSerial : Type 0
 HistoryIsSerial = InEachWorld (λ plan w. IsAccepted plan → IsSerial w.history)
+
+-- each batch is of this site
+abbrev pub AreAt : ℕ → List Event → Type 0
+AreAt site [] = Unit {0}
+AreAt site (Batch here entries ending ∷ events) = (here ≡ site) × AreAt site events
+AreAt site (Restart here ∷ events) = AreAt site events
+
+-- where all batches are of one site, the history is a serial one, whatever the plan
+abbrev pub SerialAtOneSite : Type 0
+SerialAtOneSite = (plan : PlanData) (site : ℕ) → site < count_of plan → (events : List Event) → AreAt site events
+    → MayRun plan (first_world plan) events → IsSerial (run plan (first_world plan) events).history
 
 -- the events of each site are, in order, the own Commits of its log, and there are no others
 pub record HistoryIsCommits (plan : PlanData) (w : World) : Type 0 where

@@ -3,7 +3,7 @@
 ghost use Rattle.protocol_laws.specs.Safe.{EachWorldIsSafe};
 ghost use Rattle.protocol_laws.specs.Told.{EachToldIsTrue, EachSentIsTold, EachSentIsMessage, EachToldStands, EachToldStays};
 ghost use Rattle.protocol_laws.specs.Logs.{EachTimeRises, EachIdIsGivenOnce, EachEndingFollows, EachVersionWasCurrent, EachCommitWaited, EachConflictIsOrdered};
-ghost use Rattle.protocol_laws.specs.Histories.{EachWorldGrows, EachRefusalIsNamed, EachHistoryIsCommits, HistoryIsSerial};
+ghost use Rattle.protocol_laws.specs.Histories.{EachWorldGrows, EachRefusalIsNamed, EachHistoryIsCommits, HistoryIsSerial, SerialAtOneSite};
 ghost use Rattle.protocol_laws.specs.Later.{EachTimeIsKept, EachIdStaysGiven};
 ghost use Rattle.protocol_laws.specs.ManySites.{EachWorldIsHonest, EachSentEndIsTaken, EachWorldIsOrdered, EachAbortIsCaused, EachCommitIsEvent};
 ghost use Rattle.protocol_laws.specs.Ceiling.{EachNodeStaysBelow};
@@ -177,6 +177,11 @@ pub fn each_commit_is_event()
 /// In each world of an accepted plan the history is a serial history that gives every version read.
 pub fn history_is_serial()
     ensures { HistoryIsSerial }
+{}
+
+/// Where all batches are of one site, the history is a serial history that gives every version read, whatever the plan.
+pub fn serial_at_one_site()
+    ensures { SerialAtOneSite }
 {}
 
 /// Each Abort in any log names a transaction of another site that conflicts with the aborted one. Its Prepare stands before

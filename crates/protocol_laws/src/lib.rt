@@ -12,5 +12,5 @@ pub use laws::{
     each_sent_end_is_taken, each_sent_is_message, each_sent_is_told, each_table_is_small,
     each_time_is_kept, each_time_rises, each_told_is_true, each_told_stands, each_told_stays,
     each_version_was_current, each_world_grows, each_world_is_honest, each_world_is_ordered,
-    each_world_is_safe, history_is_serial,
+    each_world_is_safe, history_is_serial, serial_at_one_site,
 };
