@@ -91,7 +91,8 @@ pub fn each_sent_is_message()
 {}
 
 /// What was told as committed, and each version that was told, also in a message, is that of an event of the history, then
-/// and in every later world; what was told as aborted is that of no event, then and later.
+/// and in every later world, and a told value is what the event of its version writes; what was told as aborted is that of no
+/// event, then and later.
 pub fn each_told_stands()
     ensures { EachToldStands }
 {}
