@@ -1,3 +1,4 @@
+-- What the taking of a message's records does to a site's log and clock, and what it keeps, whoever sent them.
 use Rattle.helios_model.specs.declared.records.Record.TheVariants.{Prepare, Commit, Abort}
 use Rattle.std.proofs.Common.{All, Contains, List, None, [], ap, append_assoc, arith, false, get_or, inl, inr, is_some, le_trans, length, nat_eq, nat_le, ne_eqb, refl, subst, sym, true, ℕ, ◌++◌, ◌+◌, ◌<◌, ◌∙◌, ◌∷◌, ◌≡◌, ◌≢◌, ◌≤◌, ◌⊎◌}
 use Rattle.std.proofs.lemmas.Bool.{cond_both, eqb-false, leb-false, or_parts}

@@ -1,10 +1,11 @@
+-- What a node keeps where it is asked only what its site may be asked: own times rise by origin within its row, and its table is small.
 use Rattle.helios_model.specs.Grid.{at}
 use Rattle.helios_model.specs.declared.records.Record.TheVariants.{Prepare, Commit, Abort}
 use Rattle.helios_model.specs.Node.{Node, clamp, clock, empty_node, known}
 use Rattle.helios_model.specs.Request.{entered, asked, next_id}
 use Rattle.helios_model.specs.Messages.{advanced, arrived, intake_of, with_records}
 use Rattle.helios_model.specs.Settle.{commit_one, ready, settle}
-use Rattle.std.proofs.Common.{All, AllPairs, List, [], ap, arith, fold, get_or, inl, inr, le_trans, length, max, nat_eq, refl, replicate, slice_set, subst, sym, ℕ, ◌%◌, ◌*◌, ◌++◌, ◌+◌, ◌/◌, ◌<◌, ◌∙◌, ◌∷◌, ◌≡◌, ◌≢◌, ◌≤◌, ◌⊎◌}
+use Rattle.std.proofs.Common.{All, List, [], ap, arith, fold, get_or, inl, inr, le_trans, length, max, nat_eq, refl, replicate, slice_set, subst, sym, ℕ, ◌%◌, ◌*◌, ◌++◌, ◌+◌, ◌/◌, ◌<◌, ◌∙◌, ◌∷◌, ◌≡◌, ◌≢◌, ◌≤◌, ◌⊎◌}
 use Rattle.std.proofs.lemmas.Bool.{cases_eq, cases_lt, cond_both}
 use Rattle.std.proofs.lemmas.List.{get_or-set_other, get_or_default, get_or_past}
 use Rattle.std.proofs.lemmas.List.Elements.{All-nil, All-replicate}
@@ -27,11 +28,12 @@ use Rattle.protocol_laws.proofs.EndRuns.{IsTimely, commits_end, end_one, held_en
 use Rattle.protocol_laws.proofs.Grids.{known_set, times_row}
 use Rattle.protocol_laws.proofs.WorldGrowth.{advanced_goes, record_goes, settle_goes}
 use Rattle.protocol_laws.proofs.JournalLaws.{AreAsked, each_asked}
-use Rattle.protocol_laws.proofs.NodeRules.{IsKeptByRules, IsSteady, commit, entries_keep, entry_keeps, next_above, ready_ids, settled_intake, settled_site, steady_advanced, steady_empty, steady_settled, taken_in}
+use Rattle.protocol_laws.proofs.NodeRules.{IsKeptByRules, IsSteady, commit, entries_keep, entry_keeps, ready_ids, settled_intake, settled_site, steady_advanced, steady_empty, steady_settled, taken_in, next_above}
 use Rattle.protocol_laws.specs.Logs.{EachTimeRises}
 use Rattle.protocol_laws.specs.Nodes.{OwnTimesRise}
 use Rattle.protocol_laws.specs.Times.{EachTableIsSmall}
 use Rattle.protocol_laws.specs.Ceiling.{highest_clock}
+use Rattle.protocol_laws.proofs.Cuts.{no_pairs}
 
 -- a higher limit serves
 relimit : (count site : ℕ) (limit limit' : ℕ → ℕ) (log : List Record) → ((j : ℕ) → j < count → j ≢ site → limit j ≤ limit' j)
@@ -285,9 +287,6 @@ asked_empty plan site here = record {
   small = λ place other. small_anywhere (replicate (count_of plan * count_of plan) 0) place
       (All-replicate (λ time. time ≤ last_time) (count_of plan * count_of plan) 0 (omega arith));
 }
-  where
-    no_pairs : {X : Type 0} (R : X → X → Type 0) → AllPairs R []
-    no_pairs R i j d less low = absurd (omega arith)
 
 pub asked_entry : (plan : PlanData) (site : ℕ) (n : Node) (e : Entry) → IsAskedNode plan site n → MayBeAsked plan site e.input
     → IsAskedNode plan site (after_entry plan n e)

@@ -1,26 +1,25 @@
+-- The clock and the number of own unfinished transactions stay below their limits.
 use Rattle.helios_model.specs.Node.{Node, clamp, clock, empty_node, known, next_time, own_open}
-use Rattle.helios_model.specs.Request.{entered, asked, next_id, refusal, room_refusal, stale_refusal, clash_refusal}
+use Rattle.helios_model.specs.Request.{entered, asked, next_id}
 use Rattle.helios_model.specs.Messages.{advanced, arrived, intake_of}
 use Rattle.helios_model.specs.Settle.{is_reached, ready, settle}
 use Rattle.protocol_laws.proofs.ArrivalSteps.{IsIntakeOf, takes_all}
-use Rattle.std.proofs.Common.{All, Bool, None, Option, Some, ap, arith, false, fold, if◌then◌else◌, length, max, nat_le, refl, subst, sym, true, ℕ, ◌++◌, ◌+◌, ◌<◌, ◌≡◌, ◌≤◌}
-use Rattle.std.proofs.lemmas.Bool.{leb-false}
+use Rattle.std.proofs.Common.{All, ap, arith, false, fold, length, max, subst, sym, ℕ, ◌++◌, ◌+◌, ◌<◌, ◌≡◌, ◌≤◌}
 use Rattle.std.proofs.lemmas.List.Elements.{All-nil}
-use Rattle.std.specs.Option.{option_or}
 use Rattle.helios_model.specs.Exchange.{Intake}
 use Rattle.helios_model.specs.Limits.{most_open, spent_time}
 use Rattle.helios_model.specs.Log.{is_own, prepares}
 use Rattle.helios_model.specs.Plans.{PlanData, count_of}
-use Rattle.helios_model.specs.Transactions.{Asking, Transaction}
+use Rattle.helios_model.specs.Transactions.{Transaction}
 use Rattle.helios_model.specs.World.{World, entries_of, first_world, node_of, run}
 use Rattle.helios_model.specs.declared.entries.Input.{Input}
-use Rattle.helios_model.specs.declared.entries.Reply.TheVariants.{PoolFull}
 use Rattle.helios_model.specs.declared.messages.Message.{Message}
 use Rattle.protocol_laws.proofs.EndRuns.{IsRun, commits_end, end_one, runs}
 use Rattle.protocol_laws.proofs.Grids.{IsInside}
 use Rattle.protocol_laws.proofs.NodeRules.{IsKeptByRules, IsSteady, advanced_intake, arrived_intake, commit, empty_known, entered_intake, settled_intake, settled_site, steady_advanced, steady_empty, steady_rules, steady_settled, taken_in, entries_keep}
 use Rattle.protocol_laws.proofs.OwnOpen.{own_ended, own_one_more, own_unfinished}
 use Rattle.protocol_laws.specs.Ceiling.{EachNodeStaysBelow, StaysBelow, highest_clock}
+use Rattle.protocol_laws.proofs.Asks.{unrefused_free}
 
 -- from a to b the clock and the number of own unfinished transactions together do not rise, nor does that number
 pub record IsNoHigher (site : ℕ) (a b : Intake) : Type 0 where
@@ -49,19 +48,6 @@ pub record HasRoom (plan : PlanData) (n : Node) : Type 0 where
 pub record IsLow (plan : PlanData) (n : Node) : Type 0 where
   pub steady : IsSteady plan n
   pub below : StaysBelow plan n
-
-none_first : {X : Type 0} (o other : Option X) → option_or o other ≡ None → o ≡ None
-none_first None other e = refl
-none_first (Some x) other e = absurd (cc)
-
--- a request that is taken has room
-pub room_left : (n : Node) (ask : Asking) → refusal n ask ≡ None → length (own_open n) < most_open
-room_left n ask none =
-    by_test (nat_le most_open (length (own_open n))) refl (none_first (room_refusal n) (option_or (stale_refusal n.log ask) (clash_refusal n.log ask)) none)
-  where
-    by_test : (full : Bool) → nat_le most_open (length (own_open n)) ≡ full → (if full then Some PoolFull else None) ≡ None → length (own_open n) < most_open
-    by_test true look e = absurd (cc)
-    by_test false look e = leb-false most_open (length (own_open n)) look
 
 pub next_low : (plan : PlanData) (n : Node) (reading : ℕ) → clock plan n < spent_time → next_time plan n reading ≤ spent_time
 next_low plan n reading below = omega arith
@@ -112,7 +98,7 @@ low_rules plan May =
     record {
       enters = λ n reading ask h may below free.
           room_entered plan n (asked n.log (next_id plan n reading) ask) h.steady (steady.enters n reading ask h.steady may below free)
-          (room_left n ask free) (next_low plan n reading below);
+          (unrefused_free n ask free).room (next_low plan n reading below);
       advances = λ n reading to h may below. low_advanced plan n reading h (steady.advances n reading to h.steady may below) below;
       arrives = λ n reading m h may below.
           let ahead : IsSteady plan (advanced plan n reading) = steady_advanced plan n reading h.steady in

@@ -1,3 +1,4 @@
+-- A run of own Commits, or of own Aborts: what it adds to a site's log and clock, and what it keeps.
 use Rattle.helios_model.specs.declared.records.Record.TheVariants.{Prepare, Commit, Abort}
 use Rattle.std.proofs.Common.{All, Bool, Contains, List, None, [], ap, append_assoc, arith, eqb-true, filter, fold, is_some, le_trans, length, map, refl, subst, sym, true, ℕ, ◌++◌, ◌+◌, ◌<◌, ◌∙◌, ◌∷◌, ◌≡◌, ◌≢◌, ◌≤◌}
 use Rattle.std.proofs.lemmas.Bool.{or_left, or_right}

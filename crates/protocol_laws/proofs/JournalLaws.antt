@@ -1,9 +1,11 @@
+-- What all steps keep holds of each world that is reached; what is journaled and told may be asked.
+use Rattle.helios_model.specs.declared.entries.Input.TheVariants.{Get, Status, Request, Pull, Push}
 use Rattle.helios_model.specs.World.Event.{Batch, Restart}
 use Rattle.helios_model.specs.World.Ending.{Done, Kept, Lost}
 use Rattle.helios_model.specs.World.{World, Told, Event, MayHappen, MayRun, first_world, entries_of, node_of, journaled, kept, replies, happens, run}
-use Rattle.std.proofs.Common.{All, List, [], inl, inr, length, subst, sym, ℕ, ◌++◌, ◌<◌, ◌∙◌, ◌∷◌, ◌≡◌, ◌⊎◌}
+use Rattle.std.proofs.Common.{All, List, [], inl, inr, length, subst, sym, ℕ, ◌++◌, ◌<◌, ◌∙◌, ◌∷◌, ◌≡◌, ◌⊎◌, get_or, true}
 use Rattle.std.proofs.lemmas.Bool.{cases_eq}
-use Rattle.std.proofs.lemmas.List.Elements.{All-append, All-cons, All-filter, All-head, All-nil, All-tail}
+use Rattle.std.proofs.lemmas.List.Elements.{All-append, All-cons, All-filter, All-head, All-nil, All-tail, filter_passes}
 use Rattle.helios_model.specs.Node.{Node}
 use Rattle.helios_model.specs.Plans.{PlanData, count_of}
 use Rattle.helios_model.specs.Step.{MayBeAsked, after_entry, is_journaled, step}
@@ -11,7 +13,9 @@ use Rattle.helios_model.specs.declared.entries.Entry.{Entry}
 use Rattle.protocol_laws.proofs.Placed.{node_placed, placed_entry}
 use Rattle.protocol_laws.proofs.Worlds.{entries_elsewhere, entries_here, first_entries, first_journals, journals_stay}
 use Rattle.protocol_laws.specs.Placed.{IsPlaced}
-use Rattle.protocol_laws.specs.Times.{EachEntryMayBeAsked}
+use Rattle.protocol_laws.specs.Times.{EachEntryMayBeAsked, EachEntryIsSpellable}
+use Rattle.helios_model.specs.Spellable.{IsSpellableInput}
+use Rattle.helios_model.specs.declared.entries.Input.{Input}
 
 -- what holds of the first world, and what each step that may happen keeps, holds of each world that is reached
 pub in_each : (plan : PlanData) (F : World → Type 0) → F (first_world plan)
@@ -30,6 +34,7 @@ pub record IsAskedTold (plan : PlanData) (t : Told) : Type 0 where
 
 pub record AreAsked (plan : PlanData) (w : World) : Type 0 where
   pub entries : (k : ℕ) → k < count_of plan → All (λ e. MayBeAsked plan k e.input) (entries_of w k)
+  pub journaled : (k : ℕ) → k < count_of plan → All (λ e. is_journaled e.input ≡ true) (entries_of w k)
   pub told : All (IsAskedTold plan) w.told
 
 replies_asked : (plan : PlanData) (site : ℕ) (n : Node) (entries : List Entry) → IsPlaced plan site n → site < count_of plan
@@ -44,28 +49,35 @@ replies_asked plan site n (e ∷ es) h low may =
     })
     (replies_asked plan site (after_entry plan n e) es (placed_entry plan site n e h) low (All-tail (λ x. MayBeAsked plan site x.input) e es may))
 
-kept_asked : (plan : PlanData) (w : World) (site : ℕ) (entries : List Entry) → length w.journals ≡ count_of plan
-    → All (λ e. MayBeAsked plan site e.input) entries → AreAsked plan w → AreAsked plan (kept plan w site entries)
-kept_asked plan w site entries journals may h = record { entries = λ k inside. by_site k inside (cases_eq k site); told = h.told }
+-- what the new entries of a journal and the old ones have, all of them have
+kept_entries : (plan : PlanData) (w : World) (site : ℕ) (entries : List Entry) (P : ℕ → Entry → Type 0) → length w.journals ≡ count_of plan
+    → All (P site) (journaled entries) → ((k : ℕ) → k < count_of plan → All (P k) (entries_of w k))
+    → (k : ℕ) → k < count_of plan → All (P k) (entries_of (kept plan w site entries) k)
+kept_entries plan w site entries P journals new old k inside = by_site (cases_eq k site)
   where
-    new : All (λ e. MayBeAsked plan site e.input) (journaled entries)
-    new = All-filter (λ e. is_journaled e.input) (λ e. MayBeAsked plan site e.input) entries may
-
-    by_site : (k : ℕ) → k < count_of plan → (k ≡ site) ⊎ (k ≡ site → ⊥) → All (λ e. MayBeAsked plan k e.input) (entries_of (kept plan w site entries) k)
-    by_site k inside (inl same) =
+    by_site : (k ≡ site) ⊎ (k ≡ site → ⊥) → All (P k) (entries_of (kept plan w site entries) k)
+    by_site (inl same) =
         let within : k < length w.journals = subst (λ count. k < count) (sym journals) inside in
         let here : entries_of (kept plan w site entries) k ≡ entries_of w k ++ journaled entries =
         subst (λ s. entries_of (kept plan w s entries) k ≡ entries_of w k ++ journaled entries) same (entries_here plan w k entries within) in
-        subst (All (λ e. MayBeAsked plan k e.input)) (sym here)
-        (All-append (λ e. MayBeAsked plan k e.input) (entries_of w k) (journaled entries) (h.entries k inside)
-        (subst (λ s. All (λ e. MayBeAsked plan s e.input) (journaled entries)) (sym same) new))
-    by_site k inside (inr apart) =
-        subst (All (λ e. MayBeAsked plan k e.input)) (sym (entries_elsewhere plan w site k entries apart)) (h.entries k inside)
+        subst (All (P k)) (sym here)
+        (All-append (P k) (entries_of w k) (journaled entries) (old k inside) (subst (λ s. All (P s) (journaled entries)) (sym same) new))
+    by_site (inr apart) = subst (All (P k)) (sym (entries_elsewhere plan w site k entries apart)) (old k inside)
+
+kept_asked : (plan : PlanData) (w : World) (site : ℕ) (entries : List Entry) → length w.journals ≡ count_of plan
+    → All (λ e. MayBeAsked plan site e.input) entries → AreAsked plan w → AreAsked plan (kept plan w site entries)
+kept_asked plan w site entries journals may h = record {
+  entries = kept_entries plan w site entries (λ k e. MayBeAsked plan k e.input) journals
+      (All-filter (λ e. is_journaled e.input) (λ e. MayBeAsked plan site e.input) entries may) h.entries;
+  journaled = kept_entries plan w site entries (λ k e. is_journaled e.input ≡ true) journals (filter_passes (λ e. is_journaled e.input) entries) h.journaled;
+  told = h.told;
+}
 
 pub event_asked : (plan : PlanData) (w : World) (e : Event) → length w.journals ≡ count_of plan → MayHappen plan w e → AreAsked plan w
     → AreAsked plan (happens plan w e)
 event_asked plan w (Batch site entries Done) journals may h = record {
   entries = (kept_asked plan w site entries journals may.each h).entries;
+  journaled = (kept_asked plan w site entries journals may.each h).journaled;
   told = All-append (IsAskedTold plan) w.told (replies plan (node_of plan w site) entries) h.told
       (replies_asked plan site (node_of plan w site) entries (node_placed plan w site) may.here may.each);
 }
@@ -76,6 +88,7 @@ event_asked plan w (Restart site) journals may h = h
 pub first_asked : (plan : PlanData) → AreAsked plan (first_world plan)
 first_asked plan = record {
   entries = λ k low. subst (All (λ e. MayBeAsked plan k e.input)) (sym (first_entries plan k low)) (All-nil (λ e. MayBeAsked plan k e.input));
+  journaled = λ k low. subst (All (λ e. is_journaled e.input ≡ true)) (sym (first_entries plan k low)) (All-nil (λ e. is_journaled e.input ≡ true));
   told = All-nil (IsAskedTold plan);
 }
 
@@ -84,3 +97,16 @@ each_asked plan events may = in_each plan (AreAsked plan) (first_asked plan) (ev
 
 pub each_entry_may_be_asked : EachEntryMayBeAsked
 each_entry_may_be_asked plan events may k low = (each_asked plan events may).entries k low
+
+asked_spelled : (plan : PlanData) (site : ℕ) (input : Input) → MayBeAsked plan site input → is_journaled input ≡ true → IsSpellableInput (count_of plan) input
+asked_spelled plan site (Get key) may in_journal = absurd (cc)
+asked_spelled plan site (Status id) may in_journal = absurd (cc)
+asked_spelled plan site (Request ask) may in_journal = may
+asked_spelled plan site (Pull to) may in_journal = may.below
+asked_spelled plan site (Push m) may in_journal = may.message
+
+pub each_entry_is_spellable : EachEntryIsSpellable
+each_entry_is_spellable plan events may k low = λ j d inside reading.
+    let h : AreAsked plan (run plan (first_world plan) events) = each_asked plan events may in
+    let e : Entry = get_or (entries_of (run plan (first_world plan) events) k) j d in
+    record { reading = reading; input = asked_spelled plan k e.input (h.entries k low j d inside) (h.journaled k low j d inside) }

@@ -1,3 +1,4 @@
+-- A node's log and clock after each part of a rule; what the rules keep, by one case analysis over the inputs; what every node keeps.
 use Rattle.helios_model.specs.declared.entries.Input.TheVariants.{Get, Status, Request, Pull, Push}
 use Rattle.helios_model.specs.declared.records.Record.TheVariants.{Prepare, Commit}
 use Rattle.helios_model.specs.Node.{Node, clock, known, with_record, is_spent, clamp, empty_node, next_time}

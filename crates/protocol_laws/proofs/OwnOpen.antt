@@ -1,3 +1,4 @@
+-- How many own unfinished transactions a log has as it grows.
 use Rattle.std.proofs.Common.{◌≡◌, ◌∙◌, ap, refl, sym, subst, ℕ, ◌+◌, ◌≤◌, Bool, true, false, not, ◌&&◌, ◌⊎◌, inl, inr, List, [], ◌∷◌, ◌++◌, length, map, filter, All, Contains, arith}
 use Rattle.helios_model.specs.declared.records.Record.{Record}
 use Rattle.helios_model.specs.declared.records.Record.TheVariants.{Prepare}
@@ -5,11 +6,12 @@ use Rattle.helios_model.specs.Transactions.{Transaction}
 use Rattle.helios_model.specs.Log.{ends, finished, is_own, prepares, unfinished}
 use Rattle.std.proofs.lemmas.Bool.{both_ways, cases_Bool, not_from_true}
 use Rattle.std.proofs.lemmas.List.{append-nil, length-append, length-map}
-use Rattle.std.proofs.lemmas.List.Elements.{All-contains, All-filter, All-head, All-tail, filter-append, filter_agree}
+use Rattle.std.proofs.lemmas.List.Elements.{All-contains, All-filter, filter-append, filter_agree}
 use Rattle.std.proofs.lemmas.List.Folds.{list_any-append}
 use Rattle.helios_model.specs.World.{kept}
 use Rattle.protocol_laws.proofs.Lists.{contains_filter, contains_here, contains_later, contains_map, filter_twice, not_or}
 use Rattle.protocol_laws.proofs.OneMore.{prepares_append}
+use Rattle.protocol_laws.proofs.Sequences.{contains_from_mem, filter_none, filter_swap}
 
 pub fewer : {X : Type 0} (p : X → Bool) (xs : List X) → length (filter p xs) ≤ length xs
 fewer p [] = omega arith
@@ -33,25 +35,9 @@ either_fewer {X = X} p q (x ∷ xs) apart =
     by_test (inr a) (inl b) less = rw (a, b) (omega arith)
     by_test (inr a) (inr b) less = rw (a, b) (omega arith)
 
-and_turned : (a b : Bool) → (a && b) ≡ (b && a)
-and_turned true true = refl
-and_turned true false = refl
-and_turned false true = refl
-and_turned false false = refl
-
-filters_turned : {X : Type 0} (p q : X → Bool) (xs : List X) → filter p (filter q xs) ≡ filter q (filter p xs)
-filters_turned p q xs =
-    filter_twice p q xs ∙ filter_agree (λ x. q x && p x) (λ x. p x && q x) (λ x. and_turned (q x) (p x)) xs ∙ sym (filter_twice q p xs)
-
 -- the own unfinished transactions of a site's log
 abbrev pub own_unfinished : ℕ → List Record → List Transaction
 own_unfinished site log = filter (is_own site) (unfinished log)
-
-nothing_passes : {X : Type 0} (p : X → Bool) (xs : List X) → All (λ x. p x ≡ false) xs → filter p xs ≡ []
-nothing_passes p [] h = refl
-nothing_passes p (x ∷ xs) h =
-    let here : p x ≡ false = All-head (λ y. p y ≡ false) x xs h in
-    rw here (nothing_passes p xs (All-tail (λ y. p y ≡ false) x xs h))
 
 -- the unfinished Prepares of a log that grew: old ones that nothing new ends, and new ones
 unfinished_grown : (log more : List Record)
@@ -72,7 +58,7 @@ own_grown site log more =
     ap (filter (is_own site)) (unfinished_grown log more)
     ∙ filter-append (is_own site) (filter (λ p. not (finished more p.id)) (unfinished log)) (filter (λ p. not (finished (log ++ more) p.id)) (prepares more))
     ∙ ap (λ ps. ps ++ filter (is_own site) (filter (λ p. not (finished (log ++ more) p.id)) (prepares more)))
-    (filters_turned (is_own site) (λ p. not (finished more p.id)) (unfinished log))
+    (filter_swap (is_own site) (λ p. not (finished more p.id)) (λ p. not (finished more p.id)) (unfinished log) (λ p own. refl))
 
 -- where no new Prepare is own, the own unfinished ones are the old ones that nothing new ends
 pub own_left : (site : ℕ) (log more : List Record) → All (λ p. is_own site p ≡ false) (prepares more)
@@ -80,8 +66,10 @@ pub own_left : (site : ℕ) (log more : List Record) → All (λ p. is_own site 
 own_left site log more foreign =
     own_grown site log more
     ∙ ap (λ ps. filter (λ p. not (finished more p.id)) (own_unfinished site log) ++ ps)
-    (nothing_passes (is_own site) (filter (λ p. not (finished (log ++ more) p.id)) (prepares more))
-    (All-filter (λ p. not (finished (log ++ more) p.id)) (λ p. is_own site p ≡ false) (prepares more) foreign))
+    (filter_none (is_own site) (filter (λ p. not (finished (log ++ more) p.id)) (prepares more)) (λ p there.
+    All-contains (λ q. is_own site q ≡ false) (filter (λ q. not (finished (log ++ more) q.id)) (prepares more)) p
+    (All-filter (λ q. not (finished (log ++ more) q.id)) (λ q. is_own site q ≡ false) (prepares more) foreign)
+    (contains_from_mem (filter (λ q. not (finished (log ++ more) q.id)) (prepares more)) p there)))
     ∙ append-nil (filter (λ p. not (finished more p.id)) (own_unfinished site log))
 
 pub own_no_more : (site : ℕ) (log more : List Record) → All (λ p. is_own site p ≡ false) (prepares more)

@@ -1,3 +1,4 @@
+-- Each node is its site's, and its table has its size.
 use Rattle.std.proofs.Common.{◌∙◌, refl, ℕ, ◌+◌, ◌*◌, ◌/◌, ◌%◌, Bool, true, false, ◌&&◌, max, Option, Some, None, List, [], ◌∷◌, fold}
 use Rattle.std.proofs.lemmas.List.{length-set, length-replicate}
 use Rattle.std.proofs.lemmas.List.FromFn.{length-map-range_with_len}

@@ -1,3 +1,4 @@
+-- A message that a node sends has a spelling.
 use Rattle.helios_model.specs.declared.records.Record.TheVariants.{Prepare, Commit, Abort}
 use Rattle.helios_model.specs.Node.{Node, known}
 use Rattle.helios_model.specs.Messages.{cover_for, message_to}

@@ -1,3 +1,4 @@
+-- Each record of a log, and each reply, has a spelling.
 use Rattle.helios_model.specs.declared.entries.Input.TheVariants.{Get, Status, Request, Pull, Push}
 use Rattle.helios_model.specs.declared.records.Record.TheVariants.{Prepare, Commit, Abort}
 use Rattle.helios_model.specs.declared.ids.Version.TheVariants.{Initial, Of}
@@ -41,7 +42,7 @@ use Rattle.protocol_laws.proofs.Committed.{event_of}
 use Rattle.protocol_laws.proofs.EndRuns.{IsWritten, IsWrittenOwn, commits_end, end_one, held_end, run_keeps, written_end}
 use Rattle.protocol_laws.proofs.JournalLaws.{AreAsked, each_asked, event_asked, first_asked, in_each}
 use Rattle.protocol_laws.proofs.Lists.{contains_here, contains_later, find_passes}
-use Rattle.protocol_laws.proofs.NodeRules.{IsKeptByRules, IsSteady, commit, entries_keep, entry_keeps, next_above, ready_ids, settled_intake, settled_site}
+use Rattle.protocol_laws.proofs.NodeRules.{IsKeptByRules, IsSteady, commit, entries_keep, entry_keeps, ready_ids, settled_intake, settled_site, next_above}
 use Rattle.protocol_laws.proofs.OneMore.{prepare_stands, unfinished_is}
 use Rattle.protocol_laws.proofs.SpelledMessages.{message_spelled}
 use Rattle.protocol_laws.specs.Ceiling.{highest_clock}

@@ -5,23 +5,23 @@ use Rattle.helios_model.specs.declared.records.Record.TheVariants.{Prepare, Comm
 use Rattle.helios_model.specs.declared.entries.Reply.TheVariants.{Committed, Overwritten, Conflict, Value, State as StateReply, Sent}
 use Rattle.helios_model.specs.declared.entries.State.TheVariants.{Unknown}
 use Rattle.helios_model.specs.World.{World, Told, first_world, message_in, messages_in, node_of, run}
-use Rattle.helios_model.specs.Node.{ending_of}
+use Rattle.helios_model.specs.Node.{ending_of, known}
 use Rattle.helios_model.specs.NamedAbort.{IsNamed, IsNamedTo, IsVersionIn, ToldIsNamed}
-use Rattle.protocol_laws.specs.Told.{IsCommitted, IsEventOfAsk, IsTrueOfAsk, IsTrueOfId, IsTrueTo, IsVersionWritten, NamesWritten, StandsForAsk, StandsForId, StandsForKey, StandsTo, StateStands, ToldIsTrue, ToldStands, EachToldStands, EachSentIsMessage, StandsForPull}
+use Rattle.protocol_laws.specs.Told.{IsValueAt, IsCommitted, IsEventOfAsk, IsTrueOfAsk, IsTrueOfId, IsTrueTo, IsVersionWritten, NamesWritten, StandsForAsk, StandsForId, StandsForKey, StandsTo, StateStands, ToldIsTrue, ToldStands, EachToldStands, EachSentIsMessage, StandsForPull}
 use Rattle.protocol_laws.specs.Clusters.{Cluster}
 use Rattle.protocol_laws.specs.ReachedClusters.{IsKept}
 use Rattle.protocol_laws.specs.SmallSteps.{IsReached}
 use Rattle.protocol_laws.proofs.HistoryLinks.{IsEventIn, event_of_commit, known_event, aborted_never, sent_versions_named}
 use Rattle.protocol_laws.proofs.ToldReplies.{IsToldIn, IsToldHere, AreTold, each_told, each_told_is_true, told_before}
-use Rattle.std.proofs.Common.{subst, Contains, List, None, Option, Some, ap, find, is_some, nat_eq, option_map, refl, sym, take, ℕ, ◌&&◌, ◌++◌, ◌∙◌, ◌≡◌, ◌≢◌}
-use Rattle.std.proofs.lemmas.Bool.{cond_both}
+use Rattle.std.proofs.Common.{subst, Contains, List, None, Option, Some, ap, find, is_some, nat_eq, option_map, refl, sym, take, ℕ, ◌&&◌, ◌++◌, ◌∙◌, ◌≡◌, ◌≢◌, Bool, [], false, fold, if◌then◌else◌, inl, inr, map, true, ◌∷◌, ◌⊎◌}
+use Rattle.std.proofs.lemmas.Bool.{cond_both, cases_Bool}
 use Rattle.std.proofs.lemmas.List.Elements.{All-contains, All-weaker, Contains-append_left}
 use Rattle.std.proofs.lemmas.Option.{same_Some}
-use Rattle.helios_model.specs.Log.{commit_in, commits, current, ends, event_at, prepare_of}
+use Rattle.helios_model.specs.Log.{commit_in, commits, current, ends, event_at, prepare_of, current_value, value_after, version_after, write_over, written}
 use Rattle.helios_model.specs.Plans.{PlanData, count_of}
 use Rattle.helios_model.specs.Request.{asked}
 use Rattle.helios_model.specs.Spellable.{IsMessageOf, IsSpellableMessage, IsSpellableReply}
-use Rattle.helios_model.specs.Transactions.{Asking}
+use Rattle.helios_model.specs.Transactions.{Asking, Transaction, writes_key}
 use Rattle.helios_model.specs.declared.entries.Input.{Input}
 use Rattle.helios_model.specs.declared.entries.Reply.{Reply}
 use Rattle.helios_model.specs.declared.ids.TxnId.{TxnId}
@@ -32,7 +32,7 @@ use Rattle.helios_model.specs.declared.records.Record.{Record}
 use Rattle.protocol_laws.proofs.Committed.{IsEventOf, event_of}
 use Rattle.protocol_laws.proofs.CurrentVersions.{current_named}
 use Rattle.protocol_laws.proofs.Ids.{same_id_is}
-use Rattle.protocol_laws.proofs.Lists.{all_from, contains_filter_map, contains_from_filter_map, contains_map, find_passes}
+use Rattle.protocol_laws.proofs.Lists.{all_from, contains_filter_map, contains_from_filter_map, contains_map, find_passes, contains_here, contains_later}
 use Rattle.protocol_laws.proofs.OneMore.{prepare_listed, prepare_stands}
 use Rattle.protocol_laws.proofs.ReachedClusters.{each_cluster_is_kept}
 use Rattle.protocol_laws.proofs.Runs.{simulation}
@@ -41,6 +41,45 @@ use Rattle.protocol_laws.proofs.Spelling.{each_reply_is_spellable}
 use Rattle.protocol_laws.specs.ClusterHistories.{NamesEvents}
 use Rattle.protocol_laws.specs.Histories.{EachRefusalIsNamed}
 use Rattle.protocol_laws.specs.Views.{cluster_of, letter_of, letters_of}
+use Rattle.std.specs.List.{list_any}
+use Rattle.helios_model.specs.Texts.{same_text}
+use Rattle.helios_model.specs.declared.transactions.WriteItem.{WriteItem}
+
+any_found : {X Y : Type 0} (q : Y → Bool) (f : X → Y) (xs : List X) → list_any q (map f xs) ≡ is_some (find (λ x. q (f x)) xs)
+any_found q f [] = refl
+any_found {X = X} q f (x ∷ xs) = by_test (cases_Bool (q (f x))) (any_found q f xs)
+  where
+    by_test : (q (f x) ≡ true) ⊎ (q (f x) ≡ false) → list_any q (map f xs) ≡ is_some (find (λ y. q (f y)) xs)
+        → list_any q (map f (x ∷ xs)) ≡ is_some (find (λ y. q (f y)) (x ∷ xs))
+    by_test (inl passes) later = rw passes refl
+    by_test (inr fails) later = rw fails later
+
+-- where a transaction writes a key, and only there, it has a value for it
+writes_value : (p : Transaction) (key : List ℕ) → writes_key p key ≡ is_some (written p key)
+writes_value p key = any_found (λ other. same_text other key) (λ x. x.key) p.writes
+
+-- the current value of a key is what the event of its current version writes
+value_written : (history : List CommitEvent) (records : List Record) (key : List ℕ) → ((e : CommitEvent) → Contains (commits records) e → Contains history e)
+    → IsValueAt history key (current records key) (current_value records key)
+value_written history records key known = folded (commits records) Initial [] (λ e there. known e there) refl
+  where
+    by_item : (version : Version) (value : List ℕ) (e : CommitEvent) (o : Option WriteItem) → Contains history e → written e.prepare key ≡ o
+        → IsValueAt history key version value → IsValueAt history key (if is_some o then Of e.prepare.id else version) (write_over value o)
+    by_item version value e None there look h = h
+    by_item version value e (Some item) there look h = record { event = e; stands = there; named = refl; item = item; listed = look; gives = refl }
+
+    after : (version : Version) (value : List ℕ) (e : CommitEvent) → Contains history e → IsValueAt history key version value
+        → IsValueAt history key (version_after key version e) (value_after key value e)
+    after version value e there h =
+        subst (λ b. IsValueAt history key (if b then Of e.prepare.id else version) (value_after key value e)) (sym (writes_value e.prepare key))
+        (by_item version value e (written e.prepare key) there refl h)
+
+    folded : (es : List CommitEvent) (version : Version) (value : List ℕ) → ((e : CommitEvent) → Contains es e → Contains history e)
+        → IsValueAt history key version value → IsValueAt history key (fold (version_after key) version es) (fold (value_after key) value es)
+    folded [] version value each h = h
+    folded (e ∷ es) version value each h =
+        folded es (version_after key version e) (value_after key value e) (λ x there. each x (contains_later e es x there))
+        (after version value e (each e (contains_here e es)) h)
 
 module _ (plan : PlanData) (w : World) (reached : IsReached plan (cluster_of plan w)) where
   abbrev u : Cluster
@@ -73,7 +112,11 @@ module _ (plan : PlanData) (w : World) (reached : IsReached plan (cluster_of pla
         subst (IsVersionIn w.history h.before key) (sym same) (current_named w.history h.before key (in_history_before t.site h.before h.later h.cut))
 
     key_stands : (key : List ℕ) (reply : Reply) → IsTrueTo plan t.site h.before site_log (Get key) reply → StandsForKey w.history h.before key reply
-    key_stands key (Value version value) holds = version_stands key version holds.0
+    key_stands key (Value version value) holds = (
+      version_stands key version holds.0,
+      subst (IsValueAt w.history key version) (sym holds.1) (subst (λ v. IsValueAt w.history key v (current_value h.before key)) (sym holds.0)
+          (value_written w.history h.before key (in_history_before t.site h.before h.later h.cut))),
+    )
     key_stands key reply holds = tt
 
     in_log : (r : Record) → Contains h.before r → Contains site_log r

@@ -34,7 +34,7 @@ use Rattle.protocol_laws.proofs.EndRuns.{IsMadeBy, IsRun, commits_end, end_one, 
 use Rattle.protocol_laws.proofs.Ids.{same_id_is, same_id_itself, same_version_of}
 use Rattle.protocol_laws.proofs.JournalLaws.{in_each}
 use Rattle.protocol_laws.proofs.Lists.{all_from, find_passes, or_false, some_of}
-use Rattle.protocol_laws.proofs.NodeRules.{IsSteady, commit, inside_entered, next_above, node_steady, settled_intake, steady_entry}
+use Rattle.protocol_laws.proofs.NodeRules.{IsSteady, commit, inside_entered, node_steady, settled_intake, steady_entry, next_above}
 use Rattle.protocol_laws.proofs.OneMore.{finished_one_more, prepare_of_grows, prepare_stands, prepares_prepare, unfinished_is}
 use Rattle.protocol_laws.proofs.Placed.{node_placed}
 use Rattle.protocol_laws.proofs.PoolSteps.{fresh_unended}

@@ -1,3 +1,4 @@
+-- Each node's log grows at its end and no time of its table falls; and so it is of worlds.
 use Rattle.helios_model.specs.declared.records.Record.TheVariants.{Prepare, Commit}
 use Rattle.helios_model.specs.World.Event.{Batch, Restart}
 use Rattle.helios_model.specs.World.Ending.{Done, Kept, Lost}

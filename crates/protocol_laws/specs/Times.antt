@@ -1,5 +1,5 @@
 -- Each time in an id or a table is within the limits: what a site's log holds, and what it answers, has a spelling.
-use Rattle.std.specs.Prelude.{ℕ, ◌<◌, ◌≤◌, List, All}
+use Rattle.std.specs.Prelude.{ℕ, ◌^◌, ◌<◌, ◌≤◌, List, All}
 use Rattle.helios_model.specs.declared.ids.TxnId.{TxnId}
 use Rattle.helios_model.specs.declared.records.Record.{Record}
 use Rattle.helios_model.specs.Limits.{last_time}
@@ -7,7 +7,7 @@ use Rattle.helios_model.specs.Plans.{PlanData, IsAccepted, count_of}
 use Rattle.helios_model.specs.Transactions.{Asking, IsAsk, IsTransaction}
 use Rattle.helios_model.specs.Node.{Node}
 use Rattle.helios_model.specs.Request.{asked}
-use Rattle.helios_model.specs.Spellable.{IsSpellableRecord, IsSpellableReply}
+use Rattle.helios_model.specs.Spellable.{IsSpellableEntry, IsSpellableRecord, IsSpellableReply}
 use Rattle.helios_model.specs.Step.{MayBeAsked}
 use Rattle.helios_model.specs.World.{World, entries_of}
 use Rattle.protocol_laws.specs.Reached.{InEachWorld, AtEachNode}
@@ -18,6 +18,13 @@ EntriesMayBeAsked plan w = (k : ℕ) → k < count_of plan → All (λ e. MayBeA
 
 abbrev pub EachEntryMayBeAsked : Type 0
 EachEntryMayBeAsked = InEachWorld EntriesMayBeAsked
+
+-- each entry of a site's journal is one that a journal keeps, and has a spelling at any reading that a clock can show
+abbrev pub EntriesAreSpellable : PlanData → World → Type 0
+EntriesAreSpellable plan w = (k : ℕ) → k < count_of plan → All (λ e. e.reading < 2 ^ 64 → IsSpellableEntry (count_of plan) e) (entries_of w k)
+
+abbrev pub EachEntryIsSpellable : Type 0
+EachEntryIsSpellable = InEachWorld EntriesAreSpellable
 
 -- no time of a site's table is above the last one
 abbrev pub TableIsSmall : PlanData → Node → Type 0

@@ -12,7 +12,7 @@ use Rattle.helios_model.specs.Messages.{message_to}
 use Rattle.helios_model.specs.Spellable.{IsMessageOf}
 use Rattle.std.specs.Prelude.{All, Contains, List, Some, [], filter, length, take, true, ℕ, ◌<◌, ◌≡◌, ◌≢◌, ◌≤◌}
 use Rattle.helios_model.specs.Limits.{most_open}
-use Rattle.helios_model.specs.Log.{current, current_value, is_own, prepare_of, unfinished}
+use Rattle.helios_model.specs.Log.{current, current_value, is_own, prepare_of, unfinished, written}
 use Rattle.helios_model.specs.NamedAbort.{IsConflict, IsVersionIn}
 use Rattle.helios_model.specs.Plans.{IsAccepted, PlanData, count_of}
 use Rattle.helios_model.specs.Request.{asked}
@@ -25,6 +25,7 @@ use Rattle.helios_model.specs.declared.records.Record.{Record}
 use Rattle.helios_model.specs.declared.transactions.ReadItem.{ReadItem}
 use Rattle.protocol_laws.specs.Reached.{InEachWorld}
 use Rattle.protocol_laws.specs.Later.{AfterEachWorld}
+use Rattle.helios_model.specs.declared.transactions.WriteItem.{WriteItem}
 
 -- the transaction that a site was asked for over the records before is that of the id in its log, and the id is the site's
 pub record IsTaken (site : ℕ) (before log : List Record) (ask : Asking) (id : TxnId) : Type 0 where
@@ -140,8 +141,22 @@ StateStands history id (Aborted cause) = IsNoEvent history id
 StateStands history id Pending = Unit {0}
 StateStands history id Unknown = Unit {0}
 
+-- an event of the history that has the id, and writes this value under the key
+pub record IsValueOf (history : List CommitEvent) (key : List ℕ) (id : TxnId) (value : List ℕ) : Type 0 where
+  pub event : CommitEvent
+  pub stands : Contains history event
+  pub named : event.prepare.id ≡ id
+  pub item : WriteItem
+  pub listed : written event.prepare key ≡ Some item
+  pub gives : item.value ≡ value
+
+-- the value under a key that goes with a version
+abbrev pub IsValueAt : List CommitEvent → List ℕ → Version → List ℕ → Type 0
+IsValueAt history key Initial value = value ≡ []
+IsValueAt history key (Of id) value = IsValueOf history key id value
+
 abbrev pub StandsForKey : List CommitEvent → List Record → List ℕ → Reply → Type 0
-StandsForKey history before key (Value version value) = IsVersionIn history before key version
+StandsForKey history before key (Value version value) = IsVersionIn history before key version × IsValueAt history key version value
 StandsForKey history before key reply = Unit {0}
 
 abbrev pub StandsForId : List CommitEvent → TxnId → Reply → Type 0
@@ -157,8 +172,8 @@ abbrev pub StandsForPull : List CommitEvent → Reply → Type 0
 StandsForPull history (Sent m) = All (NamesWritten history) m.records
 StandsForPull history reply = Unit {0}
 
--- what a reply says of commits: what was told as committed, and each version that was told, is that of an event; and what was
--- told as aborted is that of none
+-- what a reply says of commits: what was told as committed, and each version that was told, is that of an event, and a value is
+-- the one that its version's event writes; and what was told as aborted is that of none
 abbrev pub StandsTo : List CommitEvent → List Record → Input → Reply → Type 0
 StandsTo history before (Get key) reply = StandsForKey history before key reply
 StandsTo history before (Status id) reply = StandsForId history id reply

@@ -10,7 +10,7 @@ ghost use Rattle.protocol_laws.specs.Ceiling.{EachNodeStaysBelow};
 ghost use Rattle.protocol_laws.specs.Placed.{EachNodeIsPlaced};
 ghost use Rattle.protocol_laws.specs.Moves.{BatchMovesOneNode};
 ghost use Rattle.protocol_laws.specs.Symmetry.{ConflictIsSymmetric};
-ghost use Rattle.protocol_laws.specs.Times.{AskedIsTransaction, EachEntryMayBeAsked, EachTableIsSmall, EachRecordIsSpellable, EachReplyIsSpellable};
+ghost use Rattle.protocol_laws.specs.Times.{AskedIsTransaction, EachEntryMayBeAsked, EachTableIsSmall, EachRecordIsSpellable, EachReplyIsSpellable, EachEntryIsSpellable};
 
 /// Conflict is the same from both sides.
 pub fn conflict_is_symmetric()
@@ -91,7 +91,8 @@ pub fn each_sent_is_message()
 {}
 
 /// What was told as committed, and each version that was told, also in a message, is that of an event of the history, then
-/// and in every later world; what was told as aborted is that of no event, then and later.
+/// and in every later world, and a told value is what the event of its version writes; what was told as aborted is that of no
+/// event, then and later.
 pub fn each_told_stands()
     ensures { EachToldStands }
 {}
@@ -199,4 +200,9 @@ pub fn each_told_stays()
 /// names what stood in its way, each told reply is true and stands, tables and messages are honest, and conflicts are in order.
 pub fn each_world_is_safe()
     ensures { EachWorldIsSafe }
+{}
+
+/// Each entry of a site's journal is one that a journal keeps, and has a spelling where its reading is below 2^64.
+pub fn each_entry_is_spellable()
+    ensures { EachEntryIsSpellable }
 {}
