@@ -139,7 +139,7 @@ put_given d p e =
     let key = bind_some (key_at pair.0.0) (λ (k : List ℕ). option_and_then (λ (v : List ℕ). Some (record { key = k; value = v })) (value_at pair.0.1)) p pair.1.1 in
     let value = bind_some (value_at pair.0.1) (λ (v : List ℕ). Some (record { key = key.0; value = v })) p key.1.1 in
     let made : PutItem = record { key = key.0; value = value.0 } in
-    subst IsGivenPut (some_injective made p value.1.1)
+    subst IsGivenPut {x = made} (some_injective made p value.1.1)
     (record { key = key_limits pair.0.0 key.0 key.1.0; value = value_limits pair.0.1 value.0 value.1.0 })
 
 -- the items of a list of distinct keys, each as it is said

@@ -70,7 +70,7 @@ read_limits d r e =
     let key = bind_some (key_at pair.0.0) (λ (k : List ℕ). option_and_then (λ (v : NamedVersion). Some (record { key = k; version = planned_version v })) (named_version_at pair.0.1)) r pair.1.1 in
     let version = bind_some (named_version_at pair.0.1) (λ (v : NamedVersion). Some (record { key = key.0; version = planned_version v })) r key.1.1 in
     let made : PlannedRead = record { key = key.0; version = planned_version version.0 } in
-    subst IsPlannedRead (some_injective made r version.1.1)
+    subst IsPlannedRead {x = made} (some_injective made r version.1.1)
     (record { key = key_limits pair.0.0 key.0 key.1.0; version = named_limits pair.0.1 version.0 version.1.0 })
 
 reads_limits : (items : Items) (reads : List PlannedRead) → reads_of items ≡ Some reads → ArePlannedReads reads
@@ -203,6 +203,17 @@ stop_is_journaled (Some s) b h some = h
 -- ---- steps
 
 module _ (plan : PlanData) (d : Data) (step : Step) where
+  batch_made : (site : ℕ) (inputs : List Planned) (stop : Option Stop) → site < count_of plan → AreInputs plan site inputs → IsStop last_batch_call stop
+      → (may_stop inputs stop ≡ true) × (Batch site inputs stop ≡ step) → IsStep plan step
+  batch_made site inputs stop here limits stops may = subst (IsStep plan) may.1 (record {
+    here = here;
+    some = limits.some;
+    few = limits.few;
+    each = limits.each;
+    stops = stops;
+    journaled = stop_is_journaled stop (list_any is_journaled inputs) may.0;
+  })
+
   batch_limits : batch_at plan d ≡ Some step → IsStep plan step
   unfolding batch_at
   batch_limits e =
@@ -215,14 +226,7 @@ module _ (plan : PlanData) (d : Data) (step : Step) where
       let may = guard_some (may_stop inputs.0 stop.0) (Batch site.0 inputs.0 stop.0) step stop.1.1 in
       let in_inputs = bind_some (array_member (codes "inputs") d) (inputs_of plan site.0) inputs.0 inputs.1.0 in
       let limits = inputs_limits plan site.0 in_inputs.0 inputs.0 in_inputs.1.1 in
-      subst (IsStep plan) may.1 (record {
-        here = site_limits plan (codes "site") d site.0 site.1.0;
-        some = limits.some;
-        few = limits.few;
-        each = limits.each;
-        stops = given_limits last_batch_call (get (codes "stop") d) stop.0 stop.1.0;
-        journaled = stop_is_journaled stop.0 (list_any is_journaled inputs.0) may.0;
-      })
+      batch_made site.0 inputs.0 stop.0 (site_limits plan (codes "site") d site.0 site.1.0) limits (given_limits last_batch_call (get (codes "stop") d) stop.0 stop.1.0) may
 
   restart_limits : restart_at plan d ≡ Some step → IsStep plan step
   unfolding restart_at
