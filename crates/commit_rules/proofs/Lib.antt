@@ -4,3 +4,10 @@ pub mod Arriving
 pub mod Parted
 pub mod Asked
 pub mod Standing
+pub mod Lists
+pub mod OpenOnes
+pub mod Sound
+pub mod TakenSound
+pub mod Spelled
+pub mod ArrivedSound
+pub mod WithinLimits

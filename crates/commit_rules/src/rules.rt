@@ -3,6 +3,7 @@ ghost use Rattle.std.specs.Prelude.{◌≡◌, ◌<◌, IfOk, length, drop};
 ghost use Rattle.helios_model.specs.Plans.{PlanData, count_of};
 ghost use Rattle.helios_model.specs.Log.{current, current_value};
 ghost use Rattle.helios_model.specs.Node.{Node, empty_node, status};
+ghost use Rattle.helios_model.specs.Spellable.{IsSpellableReply};
 ghost use Rattle.helios_model.specs.Step.{MayBeAsked, step};
 ghost use Rattle.helios_model.specs.World.{own_commits};
 
@@ -12,7 +13,7 @@ use crate::parts::Parts;
 use crate::scan::current_version;
 use crate::values::current_value;
 use helios_model::{
-    Commits, Entry, Key, Plan, Records, Reply, SiteId, State, Time, TxnId, Version,
+    Commits, Entry, Key, MOST_SITES, Plan, Records, Reply, SiteId, State, Time, TxnId, Version,
 };
 use std::alloc::{AllocError, Global};
 use std::marker::Model;
@@ -25,10 +26,13 @@ pub struct Core {
 
 impl Model for Core {
     ghost use Rattle.commit_rules.specs.Core.{CoreState, core_of};
+    ghost use Rattle.commit_rules.specs.Limits.{IsWithinLimits};
 
     ghost Value = { CoreState };
 
     ghost view = { λ c. core_of c.parts };
+
+    ghost invariant = { λ c. IsWithinLimits c.parts.plan c.parts.node };
 }
 
 /// What a step gives: the core after it, the answer, what was appended to the log, and the own Commits among it with
@@ -75,6 +79,7 @@ impl Core {
         requires { site < count_of plan }
         ensures { IfOk result (λ core. IsCoreOf core plan (empty_node plan site)) }
     {
+        prove!(plan.count() <= MOST_SITES);
         let parts = Parts::new(alloc, plan, site)?;
         let core = Core { parts };
         Ok(core)
@@ -84,7 +89,8 @@ impl Core {
     /// core.
     pub fn step(self, entry: Entry) -> Result<Outcome, AllocError>
         requires { MayBeAsked self.plan self.site entry.input }
-        ensures { IfOk result (λ out. (plan : PlanData) (n : Node) → IsCoreOf self plan n → IsOutcome plan n entry out) }
+        ensures outcome { IfOk result (λ out. (plan : PlanData) (n : Node) → IsCoreOf self plan n → IsOutcome plan n entry out) }
+        ensures spelled { IfOk result (λ out. IsSpellableReply out.reply) }
     {
         let mut parts = self.parts;
         let (reply, added, commits) = take_step(&mut parts, entry)?;
