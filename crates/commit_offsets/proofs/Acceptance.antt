@@ -1,5 +1,5 @@
 -- Fields of their forms and within the limits are those of a plan.
-use Rattle.std.proofs.Common.{◌≡◌, ◌≤◌, ℕ, true, List, length}
+use Rattle.std.proofs.Common.{◌≡◌, ◌≤◌, ℕ, true, List}
 use Rattle.std.specs.Prelude.{nat_le}
 use Rattle.std.specs.List.{list_all, All}
 use Rattle.std.proofs.lemmas.Bool.{leb-true}

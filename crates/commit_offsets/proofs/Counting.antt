@@ -1,10 +1,10 @@
 -- How many texts can name the sites of a cluster.
-use Rattle.std.proofs.Common.{◌≡◌, ◌<◌, ◌≤◌, ℕ, suc, Bool, true, false, ◌&&◌, List, [], None, cond, length, refl, sym, ◌∙◌, ap, arith}
-use Rattle.std.specs.Prelude.{nat_le, Option, option_and_then}
+use Rattle.std.proofs.Common.{◌≡◌, ◌<◌, ◌≤◌, Bool, true, false, ◌&&◌, List, None, cond, length, refl, ◌∙◌, ap}
+use Rattle.std.specs.Prelude.{nat_le, option_and_then}
 use Rattle.std.proofs.lemmas.Bool.{le-leb, lt-leb, and_from}
+use Rattle.helios_model.specs.Limits.{most_sites}
 use Rattle.helios_model.specs.Naming.{is_count}
 use Rattle.json_text.specs.Lists.{each_of}
-use Rattle.serde_json.specs.Events.{items_len}
 use Rattle.serde_json.specs.Find.{as_str}
 use Rattle.serde_json.specs.View.{items_view}
 use Rattle.serde_json.specs.declared.value.Value.{Value}
@@ -21,11 +21,11 @@ decided texts b is =
     ap (λ n. cond (is_count n) (option_and_then (passing are_good) (each_of as_str (items_view texts))) None) (items_len-items_view texts)
     ∙ ap (λ b. cond b (option_and_then (passing are_good) (each_of as_str (items_view texts))) None) is
 
-pub counted : (texts : List Value) → 1 ≤ length texts → length texts ≤ 32 → names_in (items_view texts) ≡ option_and_then (passing are_good) (each_of as_str (items_view texts))
-counted texts some few = decided texts true (and_from (nat_le 1 (length texts)) (nat_le (length texts) 32) (le-leb 1 (length texts) some) (le-leb (length texts) 32 few))
+pub counted : (texts : List Value) → 1 ≤ length texts → length texts ≤ most_sites → names_in (items_view texts) ≡ option_and_then (passing are_good) (each_of as_str (items_view texts))
+counted texts some few = decided texts true (and_from (nat_le 1 (length texts)) (nat_le (length texts) most_sites) (le-leb 1 (length texts) some) (le-leb (length texts) most_sites few))
 
 pub too_few : (texts : List Value) → length texts ≡ 0 → names_in (items_view texts) ≡ None
 too_few texts none = decided texts false (ap is_count none)
 
-pub too_many : (texts : List Value) → 32 < length texts → names_in (items_view texts) ≡ None
-too_many texts many = decided texts false (second_false (nat_le 1 (length texts)) (nat_le (length texts) 32) (lt-leb (length texts) 32 many))
+pub too_many : (texts : List Value) → most_sites < length texts → names_in (items_view texts) ≡ None
+too_many texts many = decided texts false (second_false (nat_le 1 (length texts)) (nat_le (length texts) 32) (lt-leb (length texts) most_sites many))

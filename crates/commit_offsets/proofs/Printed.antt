@@ -1,5 +1,5 @@
 -- The value of a plan has no float and is shallow, so its text is known and is read again.
-use Rattle.std.proofs.Common.{◌≡◌, ℕ, ◌+◌, ◌≤◌, Bool, true, false, ◌||◌, ℤ, pos, List, [], ◌∷◌, map, refl, ap, ◌∙◌, arith}
+use Rattle.std.proofs.Common.{◌≡◌, ℕ, ◌+◌, ◌≤◌, Bool, true, false, ◌||◌, ℤ, pos, List, [], ◌∷◌, map, refl, arith}
 use Rattle.std.specs.Prelude.{negsuc, sum}
 use Rattle.std.specs.List.{range_with_len}
 use Rattle.helios_model.specs.Offset.{offset}

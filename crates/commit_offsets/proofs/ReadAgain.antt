@@ -1,8 +1,8 @@
 -- What is printed of a plan is read as the plan.
-use Rattle.std.proofs.Common.{◌≡◌, inl, inr, ℕ, zero, suc, ◌+◌, ◌*◌, ◌/◌, ◌%◌, ◌<◌, ◌≤◌, ◌^◌, Bool, true, false, cond, ◌&&◌, ℤ, pos, List, [], ◌∷◌, ◌++◌, Option, Some, None, Result, Ok, Err, length, map, get_or, refl, sym, ◌∙◌, ap, arith, add-one, append_assoc}
-use Rattle.std.specs.Prelude.{negsuc, ◌-ℤ◌, ◌≤ℤ◌, nat_eq, nat_le, ◌==◌, not, All, sum, is_none, option_map, option_and_then}
+use Rattle.std.proofs.Common.{◌≡◌, inl, inr, ℕ, zero, suc, ◌+◌, ◌-◌, ◌*◌, ◌/◌, ◌%◌, ◌<◌, ◌≤◌, ◌^◌, Bool, true, false, cond, ℤ, pos, List, [], ◌∷◌, ◌++◌, Option, Some, None, Ok, length, map, get_or, refl, sym, ◌∙◌, ap, arith, add-one, append_assoc}
+use Rattle.std.specs.Prelude.{negsuc, ◌-ℤ◌, ◌≤ℤ◌, nat_eq, nat_le, not, All, sum, is_none, option_map, option_and_then}
 use Rattle.std.specs.Ordering.{int_eq}
-use Rattle.std.specs.List.{flat_map, list_all, range_with_len}
+use Rattle.std.specs.List.{flat_map, range_with_len}
 use Rattle.std.proofs.lemmas.Cmp.{int_eq_equiv}
 use Rattle.std.proofs.lemmas.Bool.{cases_lt, le-leb, lt-ltb, eq-eqb, and_from}
 use Rattle.std.proofs.lemmas.Grind.{flat_map-append}
@@ -12,11 +12,10 @@ use Rattle.std.proofs.lemmas.List.Elements.{All-get_or, All-weaker}
 use Rattle.std.proofs.lemmas.List.FromFn.{map-range_with_len_more, length-range_with_len, fill_by_all, get_or-map-range_with_len}
 use Rattle.std.proofs.lemmas.List.Sums.{list_all-from_AllPass}
 use Rattle.std.proofs.lemmas.Nat.{div-mul-add, mod-mul-add, div-add-mod'}
-use Rattle.helios_model.specs.Limits.{longest_trip, greatest_latency}
+use Rattle.helios_model.specs.Limits.{longest_trip, greatest_latency, most_sites}
 use Rattle.helios_model.specs.Offset.{offset}
 use Rattle.helios_model.specs.Grid.{at}
 use Rattle.helios_model.specs.Plans.{PlanData, IsMatrix, IsPlan, count_of, rtt, latency}
-use Rattle.helios_model.specs.declared.plans.Certificate.{Certificate}
 use Rattle.helios_model.specs.Naming.{is_count}
 use Rattle.helios_model.specs.Passing.{EachMatrixPasses, EachSearchFindsFirst}
 use Rattle.helios_model.specs.Squares.{first_away, first_uneven}
@@ -30,11 +29,10 @@ use Rattle.serde_json.specs.Find.{as_str}
 use Rattle.serde_json.specs.View.{items_of}
 use Rattle.commit_offsets.specs.Forms.{passing, are_good, is_even, names_in, names_of, trips_of, version_of}
 use Rattle.commit_offsets.specs.Printing.{whole, signed, array_data, row_data, square_data, members_data, plan_data}
-use Rattle.commit_offsets.specs.Reading.{differs_at, other_offset, offset_refusal, limited, fields_at, accepted, plan_at, plan_of_text}
+use Rattle.commit_offsets.specs.Reading.{differs_at, other_offset, limited, fields_at, accepted, plan_at, plan_of_text}
 use Rattle.commit_offsets.specs.declared.data.PlanFields.{PlanFields}
 use Rattle.commit_offsets.specs.declared.refusal.FieldName.{FieldName}
 use Rattle.commit_offsets.specs.declared.refusal.FieldName.TheVariants as fields
-use Rattle.commit_offsets.specs.declared.refusal.PlanRefusal.{PlanRefusal}
 use Rattle.commit_offsets.specs.declared.refusal.PlanRefusal.TheVariants as refusals
 
 -- ---- arrays
@@ -113,7 +111,7 @@ names_read : EachMatrixPasses → (names : List (List ℕ)) (trips : List ℕ) �
 unfolding names_in
 names_read passes names trips limits =
     let found : each_of as_str (items_of (map string names)) ≡ Some names = each_of-map as_str string (λ name. name) (λ name. refl) names ∙ ap Some (map_same names) in
-    let count : is_count (length names) ≡ true = and_from (nat_le 1 (length names)) (nat_le (length names) 32) (le-leb 1 (length names) limits.some) (le-leb (length names) 32 limits.few) in
+    let count : is_count (length names) ≡ true = and_from (nat_le 1 (length names)) (nat_le (length names) most_sites) (le-leb 1 (length names) limits.some) (le-leb (length names) most_sites limits.few) in
     ap (λ n. cond (is_count n) (option_and_then (passing are_good) (each_of as_str (items_of (map string names)))) None) (items_of_len string names)
     ∙ ap (λ b. cond b (option_and_then (passing are_good) (each_of as_str (items_of (map string names)))) None) count
     ∙ ap (option_and_then (passing are_good)) found
@@ -189,22 +187,23 @@ within_read : (name : FieldName) (limit : ℕ) (xs : List ℕ) → All (λ x. x 
 unfolding limited
 within_read name limit xs low = ap (demand (refusals.Limit name)) (list_all-from_AllPass (λ x. nat_le x limit) xs (All-weaker (λ x. x ≤ limit) (λ x. nat_le x limit ≡ true) (λ x h. le-leb x limit h) xs low))
 
-accepted_read : EachSearchFindsFirst → (plan : PlanData) (pair : List ℕ) → IsPlan plan.names plan.trips plan.latencies → All (λ partner. partner ≤ 31) pair → accepted (fields_of plan pair) ≡ Ok (plan, record { pair = pair })
+accepted_read : EachSearchFindsFirst → (plan : PlanData) (pair : List ℕ) → IsPlan plan.names plan.trips plan.latencies → All (λ partner. partner < most_sites) pair → accepted (fields_of plan pair) ≡ Ok (plan, record { pair = pair })
 unfolding accepted
 accepted_read finds plan pair limits sites =
     let trips : limited fields.Rtt longest_trip plan.trips ≡ Ok tt = within_read fields.Rtt longest_trip plan.trips limits.matrix.short in
     let latencies : limited fields.Latency greatest_latency plan.latencies ≡ Ok tt = within_read fields.Latency greatest_latency plan.latencies limits.bounded in
-    let pairs : limited fields.Pair 31 pair ≡ Ok tt = within_read fields.Pair 31 pair sites in
+    let pairs : limited fields.Pair (most_sites - 1) pair ≡ Ok tt =
+    within_read fields.Pair (most_sites - 1) pair (All-weaker (λ x. x < most_sites) (λ x. x ≤ most_sites - 1) (λ x h. omega (arith, h)) pair sites) in
     let offsets : other_offset plan (offsets_list plan) ≡ None = no_other finds plan in
     let total : nat_eq (sum plan.latencies) (sum plan.latencies) ≡ true = eq-eqb (sum plan.latencies) (sum plan.latencies) refl in
     rw (trips, latencies, pairs, offsets, total) refl
 
 -- the value of a plan within its limits is read as the plan
-pub read_again : EachMatrixPasses → EachSearchFindsFirst → (plan : PlanData) (pair : List ℕ) → IsPlan plan.names plan.trips plan.latencies → length pair ≡ count_of plan → All (λ partner. partner ≤ 31) pair → plan_at (plan_data plan pair) ≡ Ok (plan, record { pair = pair })
+pub read_again : EachMatrixPasses → EachSearchFindsFirst → (plan : PlanData) (pair : List ℕ) → IsPlan plan.names plan.trips plan.latencies → length pair ≡ count_of plan → All (λ partner. partner < most_sites) pair → plan_at (plan_data plan pair) ≡ Ok (plan, record { pair = pair })
 unfolding plan_at
 read_again passes finds plan pair limits long sites = ap (λ r. r >>= accepted) (fields_read passes plan pair limits long) ∙ accepted_read finds plan pair limits sites
 
 -- a text of that value is read as the plan
-pub text_read_again : EachMatrixPasses → EachSearchFindsFirst → (plan : PlanData) (pair text : List ℕ) → IsPlan plan.names plan.trips plan.latencies → length pair ≡ count_of plan → All (λ partner. partner ≤ 31) pair → json_of text ≡ Some (plan_data plan pair) → plan_of_text text ≡ Ok (plan, record { pair = pair })
+pub text_read_again : EachMatrixPasses → EachSearchFindsFirst → (plan : PlanData) (pair text : List ℕ) → IsPlan plan.names plan.trips plan.latencies → length pair ≡ count_of plan → All (λ partner. partner < most_sites) pair → json_of text ≡ Some (plan_data plan pair) → plan_of_text text ≡ Ok (plan, record { pair = pair })
 unfolding plan_of_text
 text_read_again passes finds plan pair text limits long sites is = ap (λ o. required refusals.NotJson o >>= plan_at) is ∙ read_again passes finds plan pair limits long sites

@@ -1,5 +1,5 @@
 -- A plan and its certificate as a text says them, or the first rule that the text breaks.
-use Rattle.std.specs.Prelude.{◌≡◌, ℕ, ℤ, ◌*◌, ◌≤◌, ◌/◌, ◌%◌, ◌==◌, Bool, not, nat_le, List, length, Option, Some, None, option_and_then, Result, Ok, Err, sum, slice_index_or, pos}
+use Rattle.std.specs.Prelude.{◌≡◌, ℕ, ℤ, ◌-◌, ◌*◌, ◌≤◌, ◌/◌, ◌%◌, ◌==◌, Bool, not, nat_le, List, length, Option, Some, None, option_and_then, Result, Ok, Err, sum, slice_index_or, pos}
 use Rattle.std.specs.Ordering.{int_eq}
 use Rattle.std.specs.List.{list_all}
 use Rattle.helios_model.specs.Limits.{longest_trip, greatest_latency, most_sites}
@@ -75,7 +75,7 @@ unfoldable pub accepted : PlanFields → Result (PlanData × Certificate) PlanRe
 accepted f = do
   trips ← limited fields.Rtt longest_trip f.trips
   latencies ← limited fields.Latency greatest_latency f.latencies
-  pair ← limited fields.Pair 31 f.pair
+  pair ← limited fields.Pair (most_sites - 1) f.pair
   offsets ← offset_refusal (length f.names) (other_offset (planned f) f.offsets)
   total ← demand (refusals.TotalDiffers f.total (sum f.latencies)) (f.total == sum f.latencies)
   Ok (planned f, record { pair = f.pair })

@@ -1,10 +1,11 @@
-ghost use Rattle.std.specs.Prelude.{◌≡◌, ◌≤◌, All, IfOk, length};
+ghost use Rattle.std.specs.Prelude.{◌≡◌, ◌<◌, All, IfOk, length};
+ghost use Rattle.helios_model.specs.Limits.{most_sites};
 ghost use Rattle.helios_model.specs.Plans.{IsPlan, count_of};
 ghost use Rattle.serde_json.specs.View.{view};
 ghost use Rattle.commit_offsets.specs.Printing.{members_data, plan_data, plan_text, whole};
 ghost use Rattle.commit_offsets.specs.Reading.{plan_of_text};
 
-use crate::values::{names, numbers, offsets, sites, trips};
+use crate::values::{Offsets, RoundTrips, names, numbers, sites, square};
 use helios_model::{Bytes, Certificate, Plan, each_matrix_passes, each_search_finds_first};
 use json_text::line_of;
 use serde_json::{Value, json};
@@ -39,9 +40,9 @@ fn plan_value(alloc: Global, plan: &Plan, certificate: &Certificate) -> Result<V
 {
     let latency = numbers(alloc, plan.latencies().items())?;
     let names = names(alloc, plan.names().items())?;
-    let offset = offsets(alloc, plan)?;
+    let offset = square::<Offsets>(alloc, plan)?;
     let pair = sites(alloc, certificate.pair.items())?;
-    let rtt = trips(alloc, plan)?;
+    let rtt = square::<RoundTrips>(alloc, plan)?;
     let total = plan.total();
     members(alloc, latency, names, offset, pair, rtt, total)
 }
@@ -56,7 +57,7 @@ pub fn print_plan(
 ) -> Result<Bytes, AllocError>
     ensures text { IfOk result (λ text. text ≡ plan_text plan.now certificate.now.pair) }
     ensures reads_back { IfOk result (λ text. length certificate.now.pair ≡ count_of plan.now
-        → All (λ partner. partner ≤ 31) certificate.now.pair → plan_of_text text ≡ Ok (plan.now, certificate.now)) }
+        → All (λ partner. partner < most_sites) certificate.now.pair → plan_of_text text ≡ Ok (plan.now, certificate.now)) }
 {
     each_matrix_passes();
     each_search_finds_first();

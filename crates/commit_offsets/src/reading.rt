@@ -9,13 +9,13 @@ use crate::data::PlanFields;
 use crate::fields::plan_fields;
 use crate::offsets::first_other;
 use crate::refusal::{FieldName, PlanRefusal};
-use helios_model::{Certificate, GREATEST_LATENCY, LONGEST_TRIP, Places, Plan};
+use helios_model::{Certificate, GREATEST_LATENCY, LONGEST_TRIP, MOST_SITES, Places, Plan};
 use json_text::value_of;
 use serde_json::Value;
 use std::alloc::{AllocError, Global};
 
 /// The greatest number of a site.
-const LAST_SITE: u64 = 31;
+const LAST_SITE: u64 = MOST_SITES as u64 - 1;
 
 fn all_at_most(numbers: &[u64], limit: u64) -> bool
     ensures { result ≡ list_all (λ n. nat_le n limit) numbers.now }
@@ -37,7 +37,7 @@ fn within(name: FieldName, limit: u64, numbers: &[u64]) -> Result<(), PlanRefusa
 }
 
 fn places(alloc: Global, numbers: &[u64]) -> Result<Places, AllocError>
-    requires { All (λ n. n ≤ 31) numbers.now }
+    requires { All (λ n. n ≤ LAST_SITE) numbers.now }
     ensures { IfOk result (λ places. places ≡ numbers.now) }
 {
     let mut places = Vec::with_capacity(alloc, numbers.len())?;

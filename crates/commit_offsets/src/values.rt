@@ -1,7 +1,7 @@
-ghost use Rattle.std.specs.Prelude.{◌≡◌, ◌<◌, IfOk};
+ghost use Rattle.std.specs.Prelude.{◌≡◌, ℕ, ◌<◌, IfOk};
 ghost use Rattle.helios_model.specs.Offset.{offset as planned_offset};
-ghost use Rattle.helios_model.specs.Plans.{count_of, rtt};
-ghost use Rattle.serde_json.specs.Data.{string};
+ghost use Rattle.helios_model.specs.Plans.{PlanData, count_of, rtt};
+ghost use Rattle.serde_json.specs.Data.{Data, string};
 ghost use Rattle.serde_json.specs.View.{view};
 ghost use Rattle.commit_offsets.specs.Printing.{array_data, row_data, signed, square_data, whole};
 
@@ -43,54 +43,61 @@ pub(crate) fn names(alloc: Global, names: &[Name]) -> Result<Value, AllocError>
     Ok(Value::Array(items))
 }
 
+/// What a plan says of two sites.
+pub(crate) trait OfTwoSites {
+    /// The JSON value of what it says.
+    ghost said: { PlanData → ℕ → ℕ → Data };
+
+    fn value(plan: &Plan, i: SiteId, j: SiteId) -> Value
+        requires row { i < count_of plan.now }
+        requires column { j < count_of plan.now }
+        ensures { view result ≡ said plan.now i j };
+}
+
+/// Their round trip, in microseconds.
+pub(crate) struct RoundTrips;
+
+impl OfTwoSites for RoundTrips {
+    ghost said = { λ plan i j. whole (rtt plan i j) };
+
+    fn value(plan: &Plan, i: SiteId, j: SiteId) -> Value {
+        Value::from(plan.rtt(i, j))
+    }
+}
+
+/// Their offset, from the first to the second, in half microseconds.
+pub(crate) struct Offsets;
+
+impl OfTwoSites for Offsets {
+    ghost said = { λ plan i j. signed (planned_offset plan i j) };
+
+    fn value(plan: &Plan, i: SiteId, j: SiteId) -> Value {
+        Value::from(offset(plan, i, j))
+    }
+}
+
 #[tactic(auto, using(crate::proofs::Rows::one_more))]
-fn trips_row(alloc: Global, plan: &Plan, site: u8) -> Result<Value, AllocError>
+fn row<T: OfTwoSites>(alloc: Global, plan: &Plan, site: u8) -> Result<Value, AllocError>
     requires { site < count_of plan.now }
-    ensures { IfOk result (λ v. view v ≡ row_data (count_of plan.now) (λ j. whole (rtt plan.now site j))) }
+    ensures { IfOk result (λ v. view v ≡ row_data (count_of plan.now) (T.said plan.now site)) }
 {
     let count = plan.count();
     let mut items = Vec::with_capacity(alloc, count as usize)?;
     for j in 0..count {
-        items.push(Value::from(plan.rtt(SiteId::of(site), SiteId::of(j))))?;
+        items.push(T::value(plan, SiteId::of(site), SiteId::of(j)))?;
     }
     Ok(Value::Array(items))
 }
 
-/// The JSON square of a plan's round trips.
+/// The JSON square of what a plan says of each two sites.
 #[tactic(auto, using(crate::proofs::Rows::one_more))]
-pub(crate) fn trips(alloc: Global, plan: &Plan) -> Result<Value, AllocError>
-    ensures { IfOk result (λ v. view v ≡ square_data (count_of plan.now) (λ i j. whole (rtt plan.now i j))) }
+pub(crate) fn square<T: OfTwoSites>(alloc: Global, plan: &Plan) -> Result<Value, AllocError>
+    ensures { IfOk result (λ v. view v ≡ square_data (count_of plan.now) (T.said plan.now)) }
 {
     let count = plan.count();
     let mut rows = Vec::with_capacity(alloc, count as usize)?;
     for i in 0..count {
-        rows.push(trips_row(alloc, plan, i)?)?;
-    }
-    Ok(Value::Array(rows))
-}
-
-#[tactic(auto, using(crate::proofs::Rows::one_more))]
-fn offsets_row(alloc: Global, plan: &Plan, site: u8) -> Result<Value, AllocError>
-    requires { site < count_of plan.now }
-    ensures { IfOk result (λ v. view v ≡ row_data (count_of plan.now) (λ j. signed (planned_offset plan.now site j))) }
-{
-    let count = plan.count();
-    let mut items = Vec::with_capacity(alloc, count as usize)?;
-    for j in 0..count {
-        items.push(Value::from(offset(plan, SiteId::of(site), SiteId::of(j))))?;
-    }
-    Ok(Value::Array(items))
-}
-
-/// The JSON square of a plan's offsets.
-#[tactic(auto, using(crate::proofs::Rows::one_more))]
-pub(crate) fn offsets(alloc: Global, plan: &Plan) -> Result<Value, AllocError>
-    ensures { IfOk result (λ v. view v ≡ square_data (count_of plan.now) (λ i j. signed (planned_offset plan.now i j))) }
-{
-    let count = plan.count();
-    let mut rows = Vec::with_capacity(alloc, count as usize)?;
-    for i in 0..count {
-        rows.push(offsets_row(alloc, plan, i)?)?;
+        rows.push(row::<T>(alloc, plan, i)?)?;
     }
     Ok(Value::Array(rows))
 }

@@ -1,13 +1,14 @@
 // One disk in memory for each site that a cluster may have.
 ghost use Rattle.std.specs.Prelude.{◌≡◌, ◌<◌, length, replicate, get_or, map, IfOk, slice_index_or, vec_len};
 ghost use Rattle.std.specs.Borrow.{sem};
+ghost use Rattle.helios_model.specs.Limits.{most_sites};
 
 use crate::MemDisk;
-use helios_model::SiteId;
+use helios_model::{MOST_SITES, SiteId};
 use std::alloc::{AllocError, Global};
 use std::marker::Model;
 
-/// The disks of 32 sites.
+/// The disks of as many sites as a cluster may have.
 #[derive(Drop)]
 pub struct Bench {
     disks: Vec<MemDisk>,
@@ -15,25 +16,26 @@ pub struct Bench {
 
 impl Model for Bench {
     ghost use Rattle.std.specs.Prelude.{◌≡◌, List, length};
+    ghost use Rattle.helios_model.specs.Limits.{most_sites};
     ghost use Rattle.disk_store.specs.Memory.{MemState};
 
     ghost Value = { List MemState };
 
     ghost view = { λ b. b.disks.items };
 
-    ghost invariant = { λ b. length b.disks.items ≡ 32 };
+    ghost invariant = { λ b. length b.disks.items ≡ most_sites };
 }
 
 impl Bench {
     ghost use Rattle.disk_store.specs.Memory.{MemState, empty_disk, cleared};
     ghost use Rattle.disk_store.specs.Bench.{LendsDisk};
 
-    /// 32 empty disks without room.
+    /// Empty disks without room.
     pub fn new(alloc: Global) -> Result<Bench, AllocError>
-        ensures { IfOk result (λ bench. bench ≡ replicate 32 empty_disk) }
+        ensures { IfOk result (λ bench. bench ≡ replicate most_sites empty_disk) }
     {
         let mut disks = Vec::new(alloc);
-        for _ in 0..32u8 {
+        for _ in 0..MOST_SITES {
             disks.push(MemDisk::new(Vec::new(alloc), 0)?)?;
         }
         Ok(Bench { disks })

@@ -32,8 +32,8 @@ impl<R: Files> Model for FileDisk<R> {
 }
 
 impl<R: Files> FileDisk<R> {
-    /// The file at this path, made where it is missing; `Failed` where it cannot be opened, or where
-    /// its entry in its folder cannot be made durable.
+    /// The file at this path, made where it is missing; `Failed` where it cannot be opened or does not
+    /// tell its length, or where it is empty and its entry in its folder cannot be made durable.
     pub fn over(rt: &R, path: &str) -> Result<FileDisk<R>, Failed>
         ensures { IfOk result (λ disk. disk ≡ 0) }
     {
@@ -107,12 +107,16 @@ where
     }
 }
 
-/// Opens a file to read and write it, made where it is missing, and makes its entry in its folder durable.
+/// Opens a file to read and write it, made where it is missing, whose entry in its folder is durable.
 fn open_durably<R: Files>(rt: &R, path: &str) -> io::Result<R::File> {
     let mut options = OpenOptions::new();
     options.read(true).write(true).create(true);
     let file = options.open(rt, path)?;
-    fs::open(rt, folder_of(path))?.sync_all()?;
+    // An empty file may have been made by a process that ended before its folder was synced. One that
+    // holds bytes got them behind that sync, so its folder need not even be readable.
+    if file.metadata()?.len() == 0 {
+        fs::open(rt, folder_of(path))?.sync_all()?;
+    }
     Ok(file)
 }
 

@@ -1,6 +1,7 @@
 -- Arrays of few items, as the list of their values has them.
 use Rattle.std.specs.Prelude.{◌&&◌, Option, is_some, option_and_then, option_map}
 use Rattle.std.specs.List.{list_all}
+use Rattle.serde_json.specs.Data.{Data}
 use Rattle.serde_json.specs.Find.{as_str}
 use Rattle.json_text.specs.Lists.{each_of}
 use Rattle.std.proofs.Common.{◌≡◌, ap, ◌∙◌, ◌≢◌, List, [], ◌∷◌, length, get_or, Some, None, refl, arith}
@@ -30,13 +31,16 @@ pair_of_others (v ∷ []) h = refl
 pair_of_others (v ∷ w ∷ []) h = absurd (h refl)
 pair_of_others (v ∷ w ∷ x ∷ xs) h = refl
 
--- ---- texts
+-- ---- items that are all read
 
 rest_is : {T : Type 0} (first : Option T) (rest : Option (List T)) → (is_some first && is_some rest) ≡ is_some (option_and_then (λ x. option_map (λ xs. x ∷ xs) rest) first)
 rest_is None rest = refl
 rest_is (Some x) None = refl
 rest_is (Some x) (Some xs) = refl
 
+pub all_read : {T : Type 0} (f : Data → Option T) (vs : List Value) → list_all (λ v. is_some (f (view v))) vs ≡ is_some (each_of f (items_view vs))
+all_read f [] = refl
+all_read f (v ∷ vs) = ap (λ b. is_some (f (view v)) && b) (all_read f vs) ∙ rest_is (f (view v)) (each_of f (items_view vs))
+
 pub all_texts : (vs : List Value) → list_all (λ v. is_some (as_str (view v))) vs ≡ is_some (each_of as_str (items_view vs))
-all_texts [] = refl
-all_texts (v ∷ vs) = ap (λ b. is_some (as_str (view v)) && b) (all_texts vs) ∙ rest_is (as_str (view v)) (each_of as_str (items_view vs))
+all_texts vs = all_read as_str vs

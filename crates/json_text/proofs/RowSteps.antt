@@ -1,12 +1,12 @@
 -- Rows of numbers that a loop has read, and those that it has still to read; rows and squares of a value.
 use Rattle.std.proofs.Common.{◌≡◌, ℕ, ◌+◌, ◌<◌, ◌≤◌, List, [], ◌∷◌, ◌++◌, Option, Some, None, ◌≢◌, suc, Bool, true, false, length, drop, get_or, refl, sym, ◌∙◌, ap, append_assoc, cond, ◌==◌, arith}
-use Rattle.std.specs.List.{flat_map}
+use Rattle.std.specs.List.{flat_map, list_all}
 use Rattle.serde_json.specs.Find.{as_array}
 use Rattle.serde_json.proofs.Views.{items_len-items_view}
-use Rattle.std.specs.Prelude.{option_map, option_and_then, nat_le, if◌then◌else◌, Result, Ok, Err, IfOk}
+use Rattle.std.specs.Prelude.{is_some, option_map, option_and_then, nat_le, if◌then◌else◌, Result, Ok, Err, IfOk}
 use Rattle.std.proofs.lemmas.List.{at_drop_more, at_drop_all, append-nil}
 use Rattle.std.proofs.lemmas.Bool.{eq-eqb, ne_eqb, eqb-true, le-leb}
-use Rattle.serde_json.specs.Data.{Data, array}
+use Rattle.serde_json.specs.Data.{Data, Items, array}
 use Rattle.serde_json.specs.View.{view, items_view}
 use Rattle.serde_json.specs.declared.value.Value.{Value}
 use Rattle.json_text.specs.Arrays.{counted, array_of, row_of, square_of}
@@ -14,6 +14,7 @@ use Rattle.json_text.specs.Lists.{each_of, parts_of}
 use Rattle.json_text.specs.Unread.{Fails, ReadsAs}
 use Rattle.json_text.specs.declared.refusals.Unread.{Unread}
 use Rattle.json_text.specs.declared.refusals.Unread.TheVariants.{NoMemory, OtherForm}
+use Rattle.json_text.proofs.FewItems.{all_read}
 
 -- rows in front of what is still to be read
 abbrev pub stacked : {T : Type 0} → List T → Option (List (List T)) → Option (List T)
@@ -80,6 +81,12 @@ square_of_other_height {T = T} f n d values is other =
     ap (λ o. whole (option_and_then (counted n) (option_and_then (each_of (row_of n f)) o))) is
     ∙ ap whole (counted_wrong n (length values) (each_of (row_of n f) (items_view values)) (each_of-counted (row_of n f) values) other)
 
+-- a square is that of the array's items
+pub square_of_array : {T : Type 0} (f : Data → Option T) (n : ℕ) (d : Data) (rows : Items) → as_array d ≡ Some rows → square_of n f (array rows) ≡ square_of n f d
+unfolding square_of row_of array_of
+square_of_array f n d rows is =
+    sym (ap (λ o. option_map (flat_map (λ row. row)) (option_and_then (counted n) (option_and_then (each_of (row_of n f)) o))) is)
+
 pub square_of_no_array : {T : Type 0} (f : Data → Option T) (n : ℕ) (d : Data) → as_array d ≡ None → square_of n f d ≡ None
 unfolding square_of row_of array_of
 square_of_no_array f n d none =
@@ -103,6 +110,12 @@ row_of_other_length f n d values is other = row_counted f n d values is ∙ coun
 pub row_of_no_array : {T : Type 0} (f : Data → Option T) (n : ℕ) (d : Data) → as_array d ≡ None → row_of n f d ≡ None
 unfolding row_of array_of
 row_of_no_array f n d none = ap (λ o. option_and_then (counted n) (option_and_then (each_of f) o)) none
+
+-- whether there is a row
+pub row_told : {T : Type 0} (f : Data → Option T) (n : ℕ) (d : Data) (values : List Value) (told : Bool) → as_array d ≡ Some (items_view values) → length values ≡ n → told ≡ list_all (λ v. is_some (f (view v))) values → told ≡ is_some (row_of n f d)
+row_told f n d values told is long each =
+    each ∙ all_read f values
+    ∙ ap is_some (sym (row_counted f n d values is ∙ counted_right n (length values) (each_of f (items_view values)) (each_of-counted f values) long))
 
 counted_size : {T : Type 0} (n : ℕ) (xs ys : List T) (b : Bool) → (length xs == n) ≡ b → (if b then Some xs else None) ≡ Some ys → length ys ≡ n
 counted_size n xs ys true is same = let e : xs ≡ ys = cc in sym (ap length e) ∙ eqb-true (length xs) n is

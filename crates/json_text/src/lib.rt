@@ -17,7 +17,7 @@ pub use lists::{ItemReader, PartReader, read_list, read_parts};
 pub use members::{array_member, has_member, is_text, number_member, only, pair, text_member};
 pub use names_read::read_names;
 pub use refusals::{Refusal, Unread};
-pub use rows::{JsonNumber, read_row, read_square};
+pub use rows::{JsonNumber, is_row, read_row, read_rows, read_square};
 pub use spelled::{
     KeyReader, NameReader, NamedVersion, are_texts, id, key, named_version, stored_value, version,
 };

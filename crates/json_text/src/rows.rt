@@ -1,7 +1,7 @@
 //! Rows and squares of numbers.
-ghost use Rattle.std.specs.Prelude.{◌≡◌, ◌*◌, Option, length, IfOk, option_map};
-ghost use Rattle.std.specs.List.{flat_map};
-ghost use Rattle.serde_json.specs.Data.{Data};
+ghost use Rattle.std.specs.Prelude.{◌≡◌, ◌*◌, Option, length, IfOk, is_some, option_map};
+ghost use Rattle.std.specs.List.{flat_map, list_all};
+ghost use Rattle.serde_json.specs.Data.{Data, array};
 ghost use Rattle.serde_json.specs.View.{view, items_view};
 ghost use Rattle.json_text.specs.Arrays.{whole_number, integer, row_of, square_of};
 ghost use Rattle.json_text.specs.Lists.{each_of};
@@ -67,8 +67,42 @@ pub fn read_row<N: JsonNumber>(alloc: Global, count: usize, value: &Value) -> Re
     }
 }
 
+fn all_numbers<N: JsonNumber>(items: &[Value]) -> bool
+    ensures { result ≡ list_all (λ v. is_some (N.of (view v))) items.now }
+{
+    items.iter().all(|value| N::from_value(value).is_some())
+}
+
+/// Whether a value is an array of `count` numbers. It takes no memory.
+#[tactic(auto, using(crate::proofs::RowSteps::row_told, crate::proofs::RowSteps::row_of_other_length, crate::proofs::RowSteps::row_of_no_array))]
+pub fn is_row<N: JsonNumber>(count: usize, value: &Value) -> bool
+    ensures { result ≡ is_some (row_of count N.of (view value.now)) }
+{
+    match value.as_array() {
+        Some(items) if items.len() == count => all_numbers::<N>(items.as_slice()),
+        _ => false,
+    }
+}
+
+/// The numbers of these rows, row after row, where they are the rows of a square of `count`.
+#[tactic(auto, using(crate::proofs::RowSteps::square_found, crate::proofs::RowSteps::square_of_other_height))]
+pub fn read_rows<N: JsonNumber>(
+    alloc: Global,
+    count: usize,
+    rows: &[Value],
+) -> Result<Vec<N>, Unread>
+    ensures exact { ReadsAs (λ v. v.items) result (square_of count N.of (array (items_view rows.now))) }
+    ensures size { IfOk result (λ v. length v.items ≡ count * count) }
+{
+    if rows.len() == count {
+        rows_of(alloc, count, rows)
+    } else {
+        Err(Unread::OtherForm)
+    }
+}
+
 /// The numbers of a square of `count` rows, row after row.
-#[tactic(auto, using(crate::proofs::RowSteps::square_found, crate::proofs::RowSteps::square_of_other_height, crate::proofs::RowSteps::square_of_no_array))]
+#[tactic(auto, using(crate::proofs::RowSteps::square_of_array, crate::proofs::RowSteps::square_of_no_array))]
 pub fn read_square<N: JsonNumber>(
     alloc: Global,
     count: usize,
@@ -78,8 +112,8 @@ pub fn read_square<N: JsonNumber>(
     ensures size { IfOk result (λ v. length v.items ≡ count * count) }
 {
     match value.as_array() {
-        Some(rows) if rows.len() == count => rows_of(alloc, count, rows.as_slice()),
-        _ => Err(Unread::OtherForm),
+        Some(rows) => read_rows(alloc, count, rows.as_slice()),
+        None => Err(Unread::OtherForm),
     }
 }
 

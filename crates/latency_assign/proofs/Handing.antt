@@ -1,10 +1,10 @@
 -- Columns are handed on along the tree, from a free one to the new row.
 use Rattle.std.proofs.Common.{◌≡◌, inl, inr, ℕ, ◌+◌, ◌<◌, ◌≤◌, List, length, get_or, refl, sym, ◌∙◌, ap, subst, arith}
 use Rattle.std.specs.List.{swap, range_with_len}
-use Rattle.std.proofs.lemmas.Bool.{cases_lt, cases_eq}
+use Rattle.std.proofs.lemmas.Bool.{cases_eq}
 use Rattle.std.proofs.lemmas.List.Edits.{Swapped, swapped_from_swap, length-swap}
 use Rattle.std.proofs.lemmas.List.Sorted.{IsPermutation-swap, IsPermutation-trans}
-use Rattle.latency_assign.specs.Search.{IsTight, IsFeasible, IsMatched, IsShape, IsGrown, IsPath}
+use Rattle.latency_assign.specs.Search.{IsTight, IsFeasible, IsMatched, IsGrown, IsPath}
 
 module _ (n : ℕ) (d : ℕ → ℕ → ℕ) (u w s : List ℕ) (a b : ℕ) (feasible : IsFeasible n d u w s) (first : a < n) (second : b < n) where
   potentials : Swapped (λ i. get_or w i 0) (λ i. get_or (swap w a b) i 0) a b

@@ -1,10 +1,10 @@
 -- A column joins the tree, and its partner with it.
-use Rattle.std.proofs.Common.{◌≡◌, ◌⊎◌, inl, inr, ℕ, ◌+◌, ◌<◌, ◌≤◌, Bool, true, false, cond, List, length, get_or, set, replicate, refl, sym, ◌∙◌, ap, subst, arith, get_or-set_same, get_or-set_other, length-set}
-use Rattle.std.specs.Prelude.{nat_le, count_by}
+use Rattle.std.proofs.Common.{◌≡◌, ◌⊎◌, inl, inr, ℕ, ◌+◌, ◌<◌, ◌≤◌, cond, List, length, get_or, set, replicate, sym, ◌∙◌, ap, subst, arith, get_or-set_same, get_or-set_other, length-set}
+use Rattle.std.specs.Prelude.{nat_le}
 use Rattle.std.proofs.lemmas.Bool.{cases_lt, cases_eq, le-leb, lt-leb}
 use Rattle.std.proofs.lemmas.List.{length-replicate, get_or-replicate}
 use Rattle.std.proofs.lemmas.List.Sums.{sum_by-set, count_by-le-length}
-use Rattle.latency_assign.specs.Search.{IsTight, IsCloser, IsFeasible, IsMatched, IsShape, IsTree, IsExtended, columns_left}
+use Rattle.latency_assign.specs.Search.{IsTight, IsCloser, IsMatched, IsTree, IsExtended, columns_left}
 
 -- one column less is left
 pub fewer_left : (order : List ℕ) (place turn : ℕ) → place < length order → get_or order place 0 ≤ 1 → 2 ≤ turn → columns_left (set order place turn) + 1 ≡ columns_left order

@@ -2,7 +2,7 @@
 use Rattle.std.proofs.Common.{◌≡◌, inl, inr, ℕ, ◌+◌, ◌<◌, ◌≤◌, List, length, get_or, arith}
 use Rattle.std.proofs.lemmas.Bool.{cases_lt}
 use Rattle.helios_model.specs.Limits.{longest_trip}
-use Rattle.latency_assign.specs.Search.{IsTight, IsFeasible, IsMatched, IsTree, IsNearest, IsLowered, IsRaised, IsGrown}
+use Rattle.latency_assign.specs.Search.{IsTight, IsTree, IsNearest, IsLowered, IsRaised, IsGrown}
 
 -- a row of the tree has as much as is taken
 pub enough : (n : ℕ) (d : ℕ → ℕ → ℕ) (k turn : ℕ) (u w s order near : List ℕ) (place by i : ℕ) → k < n → IsTree n d k turn u w s order near → IsNearest n d u w s order near place by → i < n → 1 ≤ get_or order i 0 → by ≤ get_or u i 0

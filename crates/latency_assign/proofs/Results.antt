@@ -12,7 +12,7 @@ use Rattle.std.proofs.lemmas.List.Sorted.{IsPermutation-refl, Contains-permutati
 use Rattle.helios_model.specs.Limits.{longest_trip}
 use Rattle.helios_model.specs.Plans.{MatrixData, IsMatrix}
 use Rattle.latency_assign.specs.Assignment.{count_of, distance, potential, IsInRange, IsAssignment}
-use Rattle.latency_assign.specs.Search.{IsFeasible, IsMatched}
+use Rattle.latency_assign.specs.Search.{IsMatched}
 
 as_map : (a n : ℕ) → map (λ x. x) (range_with_len a n) ≡ range_with_len a n
 as_map a zero = refl

@@ -1,7 +1,8 @@
 ghost use Rattle.std.specs.Prelude.{◌≡◌, ℕ, ◌<◌, ◌≤◌, All, IfOk, length, map, pos, slice_index};
 ghost use Rattle.std.specs.List.{range_with_len};
 ghost use Rattle.helios_model.specs.Limits.{longest_trip};
-ghost use Rattle.latency_assign.specs.Assignment.{IsAssignment};
+ghost use Rattle.latency_assign.specs.Assignment.{IsAssignment, count_of, distance};
+ghost use Rattle.latency_assign.specs.Search.{IsMatched};
 
 use crate::ints::Ints;
 use crate::matching::match_row;
@@ -46,12 +47,11 @@ fn ints(alloc: Global, numbers: &[u64]) -> Result<Ints, AllocError>
     Ok(Ints::new(whole))
 }
 
-/// Potentials of the sites, none under 0 or over 1,000,000,000 microseconds, and partners. The potentials of any two
-/// sites reach their round trip, and those of a site and its partner are their round trip, so the round trips to the
-/// partners add up to the most. Only want of memory is an error.
-#[tactic(auto, using(crate::proofs::Results::same_potential))]
-pub fn assign(alloc: Global, m: &Matrix) -> Result<Potentials, AllocError>
-    ensures { IfOk result (IsAssignment m.now) }
+// Potentials of the rows, those of the columns by their places, and the columns, where each row has the column at its
+// place for a partner.
+#[tactic(auto, using(crate::proofs::Results::all_matched))]
+fn matched(alloc: Global, m: &Matrix) -> Result<(Vec<u64>, Vec<u64>, Vec<u8>), AllocError>
+    ensures { IfOk result (λ found. IsMatched (count_of m.now) (distance m.now) (count_of m.now) found.0.items found.1.items found.2.items) }
 {
     let count = m.count();
     let mut u = vec![in alloc; LONGEST_TRIP; count as usize]?;
@@ -60,12 +60,37 @@ pub fn assign(alloc: Global, m: &Matrix) -> Result<Potentials, AllocError>
     for k in 0..count as usize {
         match_row(alloc, m, k, &mut u, &mut w, &mut s)?;
     }
-    let v = by_number(alloc, &w, &s)?;
-    let u = ints(alloc, &u)?;
+    Ok((u, w, s))
+}
+
+// The potentials and the partners of the sites, where each row has the column at its place for a partner.
+#[tactic(auto, using(crate::proofs::Results::same_potential, crate::proofs::Results::rows_small))]
+fn assignment_of(
+    alloc: Global,
+    m: &Matrix,
+    u: &[u64],
+    w: &[u64],
+    s: Vec<u8>,
+) -> Result<Potentials, AllocError>
+    requires { IsMatched (count_of m.now) (distance m.now) (count_of m.now) u.now w.now s.items }
+    ensures { IfOk result (IsAssignment m.now) }
+{
+    let v = by_number(alloc, w, &s)?;
+    let u = ints(alloc, u)?;
     let v = ints(alloc, &v)?;
     Ok(Potentials {
         u,
         v,
         s: Places::new(s),
     })
+}
+
+/// Potentials of the sites, none under 0 or over 1,000,000,000 microseconds, and partners. The potentials of any two
+/// sites reach their round trip, and those of a site and its partner are their round trip, so the round trips to the
+/// partners add up to the most. Only want of memory is an error.
+pub fn assign(alloc: Global, m: &Matrix) -> Result<Potentials, AllocError>
+    ensures { IfOk result (IsAssignment m.now) }
+{
+    let (u, w, s) = matched(alloc, m)?;
+    assignment_of(alloc, m, &u, &w, s)
 }

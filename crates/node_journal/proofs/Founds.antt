@@ -3,7 +3,7 @@ use Rattle.std.proofs.Common.{◌≡◌, ℕ, ◌+◌, ◌<◌, ◌≤◌, List,
 use Rattle.std.specs.Option.{ForSome}
 use Rattle.std.proofs.lemmas.List.{drop-drop, take-take}
 use Rattle.disk_store.specs.Disk.{DiskState, GivesBytes}
-use Rattle.node_journal.specs.Frames.{length_bytes, HoldsFrame, IsReadTo, EndsAt}
+use Rattle.node_journal.specs.Frames.{length_bytes, most_payload, HoldsFrame, IsReadTo, EndsAt}
 use Rattle.node_journal.specs.Gates.{HasLength}
 use Rattle.node_journal.specs.Positions.{Position}
 use Rattle.node_journal.specs.Reading.{Finds, ReadsOn, LeavesReady}
@@ -14,7 +14,7 @@ use Rattle.node_journal.specs.declared.fault.JournalFault.{JournalFault}
 use Rattle.node_journal.proofs.Images.{read_more}
 
 -- the length behind the gate, and the payload and the next gate within the bytes
-holds_frame : (bytes : List ℕ) (gate size : ℕ) (payload : List ℕ) → HasLength bytes gate size → size ≤ 20000000 → gate + 6 + size ≤ length bytes
+holds_frame : (bytes : List ℕ) (gate size : ℕ) (payload : List ℕ) → HasLength bytes gate size → size ≤ most_payload → gate + 6 + size ≤ length bytes
     → payload ≡ take size (drop (gate + 5) bytes) → length payload ≡ size → HoldsFrame bytes gate payload
 holds_frame bytes gate size payload has small fits is size_is =
     let next : gate + 5 + size ≡ gate + 5 + length payload = omega arith in
@@ -46,7 +46,7 @@ payload_short None at size count into gives sized few = tt
 payload_short (Some disk) at size count into gives sized few = omega (arith, gives.counted)
 
 -- the frame that was read, of a disk that may tell its contents
-pub frame_found : (state : Option DiskState) (gate limit size next : ℕ) (payload : List ℕ) → ForSome state (λ disk. HasLength disk.bytes gate size) → size ≤ 20000000 → next ≡ gate + 5 + size
+pub frame_found : (state : Option DiskState) (gate limit size next : ℕ) (payload : List ℕ) → ForSome state (λ disk. HasLength disk.bytes gate size) → size ≤ most_payload → next ≡ gate + 5 + size
     → IfSome state (λ disk. (gate + 5 + size < length disk.bytes) × (payload ≡ take size (drop (gate + 5) disk.bytes))) → length payload ≡ size
     → IfSome state (λ disk. Finds disk.bytes (record { gate = gate; limit = limit }) (Ok (Frame (record { gate = next; limit = limit }) gate payload)))
 frame_found None gate limit size next payload has small is read size_is = tt

@@ -4,12 +4,12 @@ use Rattle.std.specs.List.{All}
 use Rattle.std.proofs.lemmas.Nat.{from_be_bytes-to_be_bytes_4}
 use Rattle.std.proofs.lemmas.List.{take_at, drop_at, get_or-drop, drop-drop}
 use Rattle.std.proofs.lemmas.List.Elements.{All-head, All-tail}
-use Rattle.node_journal.specs.Frames.{length_bytes, length_from, length_at, IsSmall, frames, IsReadTo, LeadsNowhere, StandsFor}
+use Rattle.node_journal.specs.Frames.{length_bytes, length_from, length_at, most_payload, IsSmall, frames, IsReadTo, LeadsNowhere, StandsFor}
 use Rattle.node_journal.proofs.Bytes.{length-length_bytes}
 use Rattle.node_journal.proofs.Opens.{short_none}
 
 -- the length that was spelled is read again
-read_again : (size : ℕ) → size ≤ 20000000 → length_from (length_bytes size) ≡ size
+read_again : (size : ℕ) → size ≤ most_payload → length_from (length_bytes size) ≡ size
 unfolding length_bytes length_from
 read_again size small = from_be_bytes-to_be_bytes_4 size (omega arith)
 
@@ -79,7 +79,7 @@ no_both [] (q ∷ qs) d r small_p small_q is closed some nowhere =
     let long : length d ≡ 1 + (4 + (length q + length (frames qs ++ r))) =
     omega (arith, ap length whole, length-append (length_bytes (length q)) (q ++ (frames qs ++ r)), length-length_bytes (length q), length-append q (frames qs ++ r)) in
     let more : length (frames qs ++ r) ≡ length (frames qs) + length r = length-append (frames qs) r in
-    let small : length q ≤ 20000000 = All-head IsSmall q qs small_q in
+    let small : length q ≤ most_payload = All-head IsSmall q qs small_q in
     elim nowhere.nowhere [
       | inl short ↦ omega (arith, short, long)
       | inr rest ↦ elim rest [ inl great ↦ omega (arith, great, size, small) | inr past ↦ omega (arith, past, size, long, more) ]

@@ -11,9 +11,13 @@ length_bytes size = to_be_bytes w32 size
 unfoldable pub length_from : List ℕ → ℕ
 length_from bytes = from_be_bytes w32 bytes
 
--- the longest payload
+-- the most bytes of a payload
+abbrev pub most_payload : ℕ
+most_payload = 20000000
+
+-- a payload is no longer than that
 abbrev pub IsSmall : List ℕ → Type 0
-IsSmall payload = length payload ≤ 20000000
+IsSmall payload = length payload ≤ most_payload
 
 -- what stands behind a gate: the payload's length, the payload, and the next gate, closed
 abbrev pub frame_of : List ℕ → List ℕ
@@ -52,7 +56,7 @@ length_at image gate = length_from (take 4 (drop (gate + 1) image))
 -- the gate is open, and leads to no length, to one that is too great, or past the end
 pub record LeadsNowhere (image : List ℕ) (gate : ℕ) : Type 0 where
   pub is_open : slice_index image gate ≡ 1
-  pub nowhere : (length image < gate + 5) ⊎ (20000000 < length_at image gate) ⊎ (length image < gate + 6 + length_at image gate)
+  pub nowhere : (length image < gate + 5) ⊎ (most_payload < length_at image gate) ⊎ (length image < gate + 6 + length_at image gate)
 
 -- the payload within what stands behind a gate
 abbrev pub payload_in : List ℕ → List ℕ

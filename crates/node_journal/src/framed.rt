@@ -1,12 +1,12 @@
 ghost use Rattle.std.specs.Prelude.{◌≡◌, ◌+◌, ◌≤◌, length, IfOk};
-ghost use Rattle.node_journal.specs.Frames.{IsSmall, frame_of, length_bytes};
+ghost use Rattle.node_journal.specs.Frames.{IsSmall, frame_of, length_bytes, most_payload};
 
 use helios_model::Bytes;
 use std::alloc::AllocError;
 use std::marker::Model;
 
-/// The longest payload, in bytes.
-pub const PAYLOAD_LIMIT: u64 = 20_000_000;
+/// The most bytes of a payload.
+pub const MOST_PAYLOAD: u64 = 20_000_000;
 
 /// A payload as it is written behind a gate, with its length before it and the next gate, closed, behind it.
 /// So `Journal::append` takes no memory.
@@ -27,7 +27,7 @@ impl Model for Framed {
 }
 
 impl Framed {
-    /// A payload of at most 20,000,000 bytes.
+    /// A payload of at most `MOST_PAYLOAD` bytes.
     pub fn new(payload: Bytes) -> Result<Framed, AllocError>
         requires { IsSmall payload }
         ensures { IfOk result (λ framed. framed ≡ payload) }
@@ -55,7 +55,7 @@ impl Framed {
 /// A length as four bytes, the highest first.
 #[tactic(auto, unfolding(crate::specs::Frames::length_bytes))]
 fn spell_length(size: usize) -> [u8; 4]
-    requires { size ≤ 20000000 }
+    requires { size ≤ most_payload }
     ensures { result ≡ length_bytes size }
 {
     (size as u32).to_be_bytes()

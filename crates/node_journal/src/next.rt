@@ -3,11 +3,11 @@ ghost use Rattle.std.specs.Option.{ForSome};
 ghost use Rattle.outside_io.specs.Causes.{IsCount, Rose};
 ghost use Rattle.disk_store.specs.Disk.{IsImage};
 ghost use Rattle.disk_store.specs.Outlook.{never};
-ghost use Rattle.node_journal.specs.Frames.{IsReadTo};
+ghost use Rattle.node_journal.specs.Frames.{IsReadTo, most_payload};
 ghost use Rattle.node_journal.specs.Gates.{HasLength};
 ghost use Rattle.node_journal.specs.Reading.{Finds, ReadsOn, LeavesReady, Advances};
 
-use crate::framed::PAYLOAD_LIMIT;
+use crate::framed::MOST_PAYLOAD;
 use crate::gate::{Gate, read_gate};
 use crate::{Found, Journal, JournalFault, Reading};
 use disk_store::Disk;
@@ -74,7 +74,7 @@ impl Reading {
         ensures quiet { IfSome (D.outlook disk.old) (λ o. o.failing ≡ never → D.outlook disk.new ≡ Some o) }
     {
         let damaged = JournalFault::Damaged { at: self.gate };
-        if size > PAYLOAD_LIMIT {
+        if size > MOST_PAYLOAD {
             return Err(damaged);
         }
         let Some(end) = self.gate.checked_add(size + 6) else {
@@ -104,7 +104,7 @@ fn read_payload<D: Disk>(
     at: u64,
     size: usize,
 ) -> Result<Option<Bytes>, JournalFault>
-    requires { size ≤ 20000000 }
+    requires { size ≤ most_payload }
     ensures whole { IfOk result (λ found. IfSome found (λ payload. IfSome (D.state disk.old) (λ d. (at + size < length d.bytes) × (payload ≡ take size (drop at d.bytes))))) }
     ensures short { IfOk result (λ found. IfNone found (IfSome (D.state disk.old) (λ d. length d.bytes ≤ at + size))) }
     ensures size { IfOk result (λ found. IfSome found (λ payload. length payload ≡ size)) }

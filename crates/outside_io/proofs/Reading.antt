@@ -13,10 +13,6 @@ over_limit None new bytes limit taken more = tt
 over_limit (Some xs) None bytes limit taken more = absurd taken
 over_limit (Some xs) (Some ys) bytes limit taken more = omega (arith, ap length taken, length-append bytes ys, more)
 
--- nothing was taken
-pub takes_none : (left : Option (List ℕ)) (most : ℕ) → TakesAtMost most left left
-takes_none left most = ([], Consumes-nil left, omega arith)
-
 -- a read takes its piece behind what was taken before
 pub takes_more : (old mid new : Option (List ℕ)) (bytes : List ℕ) (piece most : ℕ) → Consumes old mid bytes → TakesAtMost piece mid new → length bytes + piece ≤ most → TakesAtMost most old new
 takes_more old mid new bytes piece most taken (front, next, short) fits =

@@ -1,11 +1,11 @@
 -- Latencies that are the sums of potentials make an accepted plan, and the partners are its certificate.
-use Rattle.std.proofs.Common.{◌≡◌, ℕ, zero, suc, ◌+◌, ◌<◌, ◌≤◌, List, length, map, get_or, refl, sym, ◌∙◌, ap, arith, add-one, ℤ, pos}
+use Rattle.std.proofs.Common.{◌≡◌, ℕ, zero, suc, ◌+◌, ◌<◌, ◌≤◌, List, length, map, get_or, refl, sym, ◌∙◌, ap, subst, arith, add-one, ℤ, pos}
 use Rattle.std.specs.Prelude.{◌+ℤ◌, ◌≤ℤ◌, negsuc, All, sum}
 use Rattle.std.proofs.lemmas.Int.{ints}
 use Rattle.std.proofs.lemmas.List.{length-map, get_or-map}
 use Rattle.std.proofs.lemmas.List.Elements.{All-get_or, All-from_get_or}
 use Rattle.helios_model.specs.Optimal.{IsCertificate, IsOptimal}
-use Rattle.helios_model.specs.Limits.{longest_trip, greatest_latency}
+use Rattle.helios_model.specs.Limits.{longest_trip, greatest_latency, most_sites}
 use Rattle.helios_model.specs.Plans.{MatrixData, PlanData, IsMatrix, IsPlan, IsAccepted}
 use Rattle.latency_assign.specs.Assignment.{count_of, distance, potential, IsInRange, IsAssignment}
 use Rattle.latency_assign.specs.declared.potentials.Potentials.{Potentials}
@@ -172,8 +172,8 @@ module _ (orders : PairingsAreOrders) (add_up : PartnersAddUp) (m : MatrixData) 
         value = (let same : sum latencies ≡ sum_below (λ i. distance m i (get_or p.s i 0)) n = omega arith in same);
       }
 
-  pub is_optimal : CertificatesShowOptimal → IsOptimal (planned m latencies)
-  is_optimal shows = shows plan p.s is_accepted is_certified
+  pub is_optimal : CertificatesShowOptimal → (made : PlanData) → made ≡ planned m latencies → IsOptimal made
+  is_optimal shows made is = subst IsOptimal (sym is) (shows plan p.s is_accepted is_certified)
 
   pub is_judged : EachSearchFindsFirst → EachShortPairIsFound → verdict_of (planned m latencies) p.s ≡ verdicts.Optimal (sum latencies)
   is_judged finds shorts = sym (verdict_is finds shorts orders plan p.s (verdicts.Optimal (sum latencies)) pairing.size (is_accepted, is_certified, refl))
@@ -182,9 +182,9 @@ module _ (orders : PairingsAreOrders) (add_up : PartnersAddUp) (m : MatrixData) 
   is_long = pairing.size
 
   -- each partner is a site
-  pub are_sites : All (λ partner. partner ≤ 31) p.s
-  are_sites = All-from_get_or (λ partner. partner ≤ 31) p.s 0 (λ i within. (
+  pub are_sites : All (λ partner. partner < most_sites) p.s
+  are_sites = All-from_get_or (λ partner. partner < most_sites) p.s 0 (λ i within. (
       let low : i < count_of m = (let size : length p.s ≡ count_of m = is_long in omega arith) in
       let below : get_or p.s i 0 < count_of m = pairing.sites i low in
-      let few : count_of m ≤ 32 = limits.few in
+      let few : count_of m ≤ most_sites = limits.few in
       omega arith))

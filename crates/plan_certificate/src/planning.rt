@@ -1,4 +1,5 @@
 ghost use Rattle.std.specs.Prelude.{◌≡◌, ℕ, ◌<◌, ◌≤◌, pos, ◌+ℤ◌, All, IfOk, length, slice_index, sum};
+ghost use Rattle.helios_model.specs.Limits.{most_sites};
 ghost use Rattle.helios_model.specs.Optimal.{IsCertificate, IsOptimal};
 ghost use Rattle.helios_model.specs.Plans.{IsAccepted, IsPlan, count_of};
 ghost use Rattle.latency_assign.specs.Assignment.{IsAssignment, IsInRange, potential};
@@ -53,14 +54,14 @@ fn plan_with(names: &Names, trips: &Times, latencies: Times) -> Result<Plan, All
 }
 
 /// The plan of a matrix with the least average latency, and the pairing that proves it. Only want of memory is an error.
-#[tactic(auto, using(crate::proofs::Planned::is_plan, crate::proofs::Planned::is_accepted, crate::proofs::Planned::is_certified, crate::proofs::Planned::is_judged, crate::proofs::Planned::is_long, crate::proofs::Planned::are_sites))]
+#[tactic(auto, using(crate::proofs::Planned::is_plan, crate::proofs::Planned::is_accepted, crate::proofs::Planned::is_certified, crate::proofs::Planned::is_optimal, crate::proofs::Planned::is_judged, crate::proofs::Planned::is_long, crate::proofs::Planned::are_sites))]
 pub fn plan_of(alloc: Global, m: &Matrix) -> Result<(Plan, Certificate), AllocError>
     ensures names { IfOk result (λ made. made.0.names ≡ m.now.names) }
     ensures trips { IfOk result (λ made. made.0.trips ≡ m.now.trips) }
     ensures accepted { IfOk result (λ made. IsAccepted made.0) }
     ensures certified { IfOk result (λ made. IsCertificate made.0 made.1.pair) }
     ensures paired { IfOk result (λ made. length made.1.pair ≡ count_of made.0) }
-    ensures sites { IfOk result (λ made. All (λ partner. partner ≤ 31) made.1.pair) }
+    ensures sites { IfOk result (λ made. All (λ partner. partner < most_sites) made.1.pair) }
     ensures judged { IfOk result (λ made. verdict_of made.0 made.1.pair ≡ Verdict.Optimal (sum made.0.latencies)) }
     ensures optimal { IfOk result (λ made. IsOptimal made.0) }
 {

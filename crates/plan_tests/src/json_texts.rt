@@ -4,9 +4,9 @@ ghost use Rattle.json_text.specs.Reading.{required};
 ghost use Rattle.plan_tests.specs.declared.json_texts.Told.TheVariants.{Bad, NoMemory};
 
 use json_text::{
-    ItemReader, KeyReader, NamedVersion, PutReader, ReadReader, Refusal, Unread, id, line_of,
-    named_version, read_keyed, read_list, read_names, read_parts, read_row, read_square,
-    stored_value, value_of, version,
+    ItemReader, KeyReader, NamedVersion, PutReader, ReadReader, Refusal, Unread, id, is_row,
+    line_of, named_version, read_keyed, read_list, read_names, read_parts, read_row, read_rows,
+    read_square, stored_value, value_of, version,
 };
 use serde_json::Value;
 use std::alloc::{AllocError, Global};
@@ -61,6 +61,18 @@ fn rows_and_squares_are_read(rt: HostRuntime) -> Result<(), Fail> {
         read_square::<u64>(alloc, 3, &value).err(),
         Some(Unread::OtherForm)
     );
+    let rows = value.as_array().ok_or("no array")?.as_slice();
+    assert_eq!(rt;
+        read_rows::<u64>(alloc, 2, rows)?.as_slice(),
+        square.as_slice()
+    );
+    assert_eq!(rt;
+        read_rows::<u64>(alloc, 2, &[]).err(),
+        Some(Unread::OtherForm)
+    );
+    let last = rows.last().ok_or("no row")?;
+    assert!(rt; is_row::<u64>(2, last) && !is_row::<i64>(2, last));
+    assert!(rt; !is_row::<u64>(1, last) && !is_row::<u64>(2, &value));
     let value = read(alloc, "[-9223372036854775808,0]")?;
     let row = read_row::<i64>(alloc, 2, &value)?;
     assert_eq!(rt; row.as_slice(), [i64::MIN, 0].as_slice());

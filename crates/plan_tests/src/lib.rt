@@ -2,6 +2,11 @@
 #![tactic(auto)]
 
 #[cfg(test)]
+use std::alloc::{AllocError, Global};
+#[cfg(test)]
+use std::fmt::Display;
+
+#[cfg(test)]
 mod copies;
 #[cfg(test)]
 mod json_texts;
@@ -13,3 +18,16 @@ mod plan_texts;
 mod planning;
 #[cfg(test)]
 mod schedule_texts;
+
+/// What is printed of a reading: this word where it gave something, else its refusal.
+#[cfg(test)]
+pub(crate) fn line_of<T: Drop, E: Display + Drop>(
+    alloc: Global,
+    word: &str,
+    read: Result<T, E>,
+) -> Result<String, AllocError> {
+    match read {
+        Ok(_) => String::from_str(alloc, word),
+        Err(refusal) => format!(in alloc; "{refusal}"),
+    }
+}

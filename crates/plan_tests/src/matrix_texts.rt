@@ -1,18 +1,10 @@
+use crate::line_of;
 use helios_model::SiteId;
 use rtt_matrix::read_matrix;
-use std::alloc::{AllocError, Global};
 use std::test::Fail;
 
 const THREE: &str =
     r#"{"rtt":[[0,30000,20000],[30000,0,40000],[20000,40000,0]],"names":["A","B","C"],"more":null}"#;
-
-// What is printed of a text: `matrix` where it is one, else its refusal.
-fn line_of(alloc: Global, text: &str) -> Result<String, AllocError> {
-    match read_matrix(alloc, text.as_bytes()) {
-        Ok(_) => String::from_str(alloc, "matrix"),
-        Err(refusal) => format!(in alloc; "{refusal}"),
-    }
-}
 
 #[test]
 fn texts_are_read_or_refused(rt: HostRuntime) -> Result<(), Fail> {
@@ -66,7 +58,11 @@ fn texts_are_read_or_refused(rt: HostRuntime) -> Result<(), Fail> {
         (r#"{"names":["A","B"],"rtt":[[0,1],[1,3]]}"#, "diagonal 1"),
     ];
     for (text, want) in cases {
-        let line = line_of(rt.alloc(), text)?;
+        let line = line_of(
+            rt.alloc(),
+            "matrix",
+            read_matrix(rt.alloc(), text.as_bytes()),
+        )?;
         assert_eq!(rt; line.as_str(), want, "at {text}");
     }
     Ok(())

@@ -1,6 +1,6 @@
+use crate::line_of;
 use commit_offsets::{offset, print_plan, read_plan};
 use helios_model::SiteId;
-use std::alloc::{AllocError, Global};
 use std::test::Fail;
 
 const ONE_SITE: &str =
@@ -17,14 +17,6 @@ const THREE: &str =
 
 const SLACK: &str =
     r#"{"latency":[200,200,200],"names":["A","B","C"],"offset":[[0,100,100],[100,0,200],[100,200,0]],"pair":[1,0,2],"rtt":[[0,100,100],[100,0,0],[100,0,0]],"total":600,"version":1}"#;
-
-// What is printed of a text: `plan` where it is one, else its refusal.
-fn line_of(alloc: Global, text: &str) -> Result<String, AllocError> {
-    match read_plan(alloc, text.as_bytes()) {
-        Ok(_) => String::from_str(alloc, "plan"),
-        Err(refusal) => format!(in alloc; "{refusal}"),
-    }
-}
 
 #[test]
 fn texts_are_read_or_refused(rt: HostRuntime) -> Result<(), Fail> {
@@ -119,7 +111,7 @@ fn texts_are_read_or_refused(rt: HostRuntime) -> Result<(), Fail> {
         ),
     ];
     for (text, want) in cases {
-        let line = line_of(rt.alloc(), text)?;
+        let line = line_of(rt.alloc(), "plan", read_plan(rt.alloc(), text.as_bytes()))?;
         assert_eq!(rt; line.as_str(), want, "at {text}");
     }
     Ok(())

@@ -1,2 +1,2 @@
 pub mod Counting
-pub mod RowSteps
+pub mod FirstRows

@@ -1,14 +1,14 @@
 -- The matrix that a text says, or the first rule that the text breaks.
-use Rattle.std.specs.Prelude.{ℕ, ◌+◌, ◌&&◌, Bool, nat_le, nat_lt, List, [], ◌++◌, length, Option, Some, None, is_some, Result, Ok, Err, codes, if◌then◌else◌}
+use Rattle.std.specs.Prelude.{ℕ, ◌+◌, List, length, min, Option, Some, None, is_some, Result, Ok, Err, codes, if◌then◌else◌}
 use Rattle.helios_model.specs.Naming.{first_bad_name, is_count}
 use Rattle.helios_model.specs.Plans.{MatrixData}
 use Rattle.helios_model.specs.Squares.{first_away, first_too_long, first_uneven}
-use Rattle.json_text.specs.Arrays.{whole_number, row_of}
+use Rattle.json_text.specs.Arrays.{whole_number, row_of, square_of}
 use Rattle.json_text.specs.Lists.{each_of}
 use Rattle.json_text.specs.Members.{array_member}
 use Rattle.json_text.specs.Reading.{◌>>=◌, required, demand}
 use Rattle.json_text.specs.Text.{json_of}
-use Rattle.serde_json.specs.Data.{Data, Items, no_items, item}
+use Rattle.serde_json.specs.Data.{Data, Items, array, no_items, item}
 use Rattle.serde_json.specs.Events.{items_len}
 use Rattle.serde_json.specs.Find.{as_str}
 use Rattle.rtt_matrix.specs.declared.refusal.MatrixRefusal.{MatrixRefusal}
@@ -31,16 +31,14 @@ names_of items = do
   good ← refused_at refusals.BadName (first_bad_name names)
   Ok names
 
--- a row in front of those that follow, or the refusal of its place
-abbrev pub row_then : ℕ → Option (List ℕ) → Result (List ℕ) MatrixRefusal → Result (List ℕ) MatrixRefusal
-row_then i None rest = Err (refusals.BadRow i)
-row_then i (Some row) (Ok trips) = Ok (row ++ trips)
-row_then i (Some row) (Err refusal) = Err refusal
+-- how many rows of n whole numbers stand before the first value that is none
+abbrev pub good_rows : ℕ → Items → ℕ
+good_rows n no_items = 0
+good_rows n (item d ds) = if is_some (row_of n whole_number d) then 1 + good_rows n ds else 0
 
--- the numbers of n rows of n whole numbers, from row i on, row after row
-abbrev pub trips_from : ℕ → ℕ → Items → Result (List ℕ) MatrixRefusal
-trips_from n i no_items = if nat_le n i then Ok [] else Err (refusals.BadRow i)
-trips_from n i (item d ds) = row_then i (if nat_lt i n then row_of n whole_number d else None) (trips_from n (i + 1) ds)
+-- the numbers of n rows of n whole numbers, row after row, or the first row that is missing, too many or no such row
+unfoldable pub trips_of : ℕ → Items → Result (List ℕ) MatrixRefusal
+trips_of n rows = required (refusals.BadRow (min n (good_rows n rows))) (square_of n whole_number (array rows))
 
 -- nothing where no two sites are at fault, or else the refusal of those that are
 abbrev pub refused_pair : (ℕ → ℕ → MatrixRefusal) → Option (ℕ × ℕ) → Result (Unit {0}) MatrixRefusal
@@ -61,7 +59,7 @@ matrix_at d = do
   all ← demand refusals.BadShape (is_some (each_of as_str texts))
   rows ← items_at (codes "rtt") d
   names ← names_of texts
-  trips ← trips_from (length names) 0 rows
+  trips ← trips_of (length names) rows
   limits ← trips_checked (length names) trips
   Ok (record { names = names; trips = trips })
 

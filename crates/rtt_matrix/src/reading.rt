@@ -62,7 +62,7 @@ fn matrix(alloc: Global, value: &Value) -> Result<Matrix, MatrixRefusal>
     let rows = items(value, "rtt")?;
     let names = names(alloc, texts.as_slice())?;
     let count = names.items().len();
-    let trips = trips(alloc, count, rows)?;
+    let trips = trips(alloc, count, rows.as_slice())?;
     check_trips(count, trips.items())?;
     Ok(Matrix::new(names, trips))
 }

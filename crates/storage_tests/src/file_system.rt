@@ -11,11 +11,12 @@ use std::os::unix::fs::FileExt;
 use std::rt::Files;
 
 /// A file of five bytes in a folder. Its reads and writes answer by a list, and behind it move all that
-/// they can.
+/// they can. It tells its length once, which need not be five.
 #[derive(Drop)]
 pub(crate) struct FileSystem {
     folder: &'static str,
     answers: &'static [Answer],
+    length: Cell<Option<u64>>,
     moves: Cell<usize>,
     bytes: Cell<[u8; 5]>,
     folder_syncs: Cell<usize>,
@@ -27,11 +28,19 @@ impl FileSystem {
         FileSystem {
             folder,
             answers,
+            length: Cell::new(Some(5)),
             moves: Cell::new(0),
             bytes: Cell::new(*b"right"),
             folder_syncs: Cell::new(0),
             data_syncs: Cell::new(0),
         }
+    }
+
+    /// One whose file tells this length, or fails where it is asked for it.
+    pub(crate) fn of_length(folder: &'static str, length: Option<u64>) -> FileSystem {
+        let system = FileSystem::new(folder, &[]);
+        system.length.set(length);
+        system
     }
 
     /// How many reads and writes of the file there were.
@@ -118,8 +127,12 @@ impl<'a> Seek for Opened<'a> {
 }
 
 impl<'a> OpenFile for Opened<'a> {
+    /// It succeeds once.
     fn metadata(&self) -> io::Result<Metadata> {
-        broken()
+        match self.system.length.replace(None) {
+            Some(length) => Ok(Metadata::of_file(length)),
+            None => broken(),
+        }
     }
 
     fn set_len(&self, _size: u64) -> io::Result<()> {

@@ -86,14 +86,16 @@ fn a_file_that_breaks_or_takes_nothing_is_a_fault(rt: HostRuntime) -> Result<(),
 }
 
 #[test]
-fn the_folder_is_synced_once_and_then_the_data(rt: HostRuntime) -> Result<(), Fail> {
+fn the_folder_of_an_empty_file_is_synced_once_and_then_the_data(
+    rt: HostRuntime,
+) -> Result<(), Fail> {
     for (folder, path) in [
         (".", "journal"),
         ("data", "data/journal"),
         ("/", "/journal"),
         ("/a/b", "/a/b/journal"),
     ] {
-        let system = FileSystem::new(folder, &[]);
+        let system = FileSystem::of_length(folder, Some(0));
         let files = &system;
         let mut disk = FileDisk::over(&files, path)?;
         assert_eq!(rt; system.syncs(), (1, 0), "{path}");
@@ -101,8 +103,24 @@ fn the_folder_is_synced_once_and_then_the_data(rt: HostRuntime) -> Result<(), Fa
         assert_eq!(rt; system.syncs(), (1, 1), "{path}");
         assert_eq!(rt; disk.sync(), Err(Failed), "{path}");
     }
-    let elsewhere = FileSystem::new("data", &[]);
-    let files = &elsewhere;
-    assert!(rt; FileDisk::over(&files, "journal").is_err());
     Ok(())
+}
+
+#[test]
+fn a_folder_that_cannot_be_opened_refuses_an_empty_file_alone(rt: HostRuntime) {
+    for (length, is_taken) in [
+        (Some(0), false),
+        (Some(1), true),
+        (Some(5), true),
+        (None, false),
+    ] {
+        let system = FileSystem::of_length("data", length);
+        let files = &system;
+        assert_eq!(rt;
+            FileDisk::over(&files, "journal").is_ok(),
+            is_taken,
+            "{length:?}"
+        );
+        assert_eq!(rt; system.syncs(), (0, 0));
+    }
 }

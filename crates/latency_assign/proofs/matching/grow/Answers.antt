@@ -1,4 +1,4 @@
-use Rattle.std.proofs.Common.{◌≡◌, ℕ, ◌<◌, ◌≤◌, length, get_or, arith}
+use Rattle.std.proofs.Common.{◌≡◌, length, arith}
 use Rattle.latency_assign.specs.Assignment.{count_of, distance}
 use Rattle.latency_assign.specs.Search.{IsTree}
 use Rattle.latency_assign.proofs.Lowering.{enough, room, lowered_tree, nearest_tight, grown}

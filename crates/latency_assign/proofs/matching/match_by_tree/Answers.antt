@@ -1,4 +1,4 @@
-use Rattle.std.proofs.Common.{◌≡◌, ◌≤◌, get_or, length, arith}
+use Rattle.std.proofs.Common.{◌≤◌, get_or, arith}
 use Rattle.latency_assign.specs.Assignment.{count_of, distance}
 use Rattle.latency_assign.proofs.Joining.{first_tree}
 use Rattle.latency_assign.proofs.Handing.{begun_path, next_path}

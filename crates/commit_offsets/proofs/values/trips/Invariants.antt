@@ -1,9 +1,0 @@
-use Rattle.std.proofs.Common.{◌≡◌, map}
-use Rattle.std.specs.List.{range_with_len}
-use Rattle.helios_model.specs.Plans.{count_of, rtt}
-use Rattle.serde_json.specs.View.{view}
-use Rattle.commit_offsets.specs.Printing.{row_data, whole}
-use Rattle.commit_offsets.proofs.values.trips.Given as goal
-
-abbrev pub invariant-loop-i : goal.invariant-loop-i
-invariant-loop-i l = map view l.rows.items ≡ map (λ i. row_data (count_of l.plan) (λ j. whole (rtt l.plan i j))) (range_with_len 0 l.i)
