@@ -1,7 +1,8 @@
 // Each copy is equal to what it was made from, with ample memory; conflicts are the same from both sides.
 use helios_model::{
-    Ask, Bytes, Key, Keys, Name, Names, Places, Prepare, PutItem, Puts, ReadItem, Reads, Replies,
-    Reply, SiteId, Time, Times, TxnId, TxnIds, Val, Version, WriteItem, Writes, conflicts,
+    Ask, Bytes, Key, Keys, Message, Name, Names, Places, Prepare, PutItem, Puts, ReadItem, Reads,
+    Record, Records, SiteId, Time, Times, TxnId, TxnIds, Val, Version, WriteItem, Writes,
+    conflicts,
 };
 use std::alloc::{AllocError, Global};
 use std::test::Fail;
@@ -116,12 +117,30 @@ fn requests_are_copied(rt: HostRuntime) -> Result<(), Fail> {
 }
 
 #[test]
-fn replies_are_copied(rt: HostRuntime) -> Result<(), Fail> {
-    let key = key(rt.alloc(), "x")?;
-    let current = Version::Of(id(3));
-    let stale = Reply::Overwritten { key, current };
-    let replies = Replies::new(vec![in rt.alloc(); Reply::Prepared(id(7)), stale]?);
-    assert_eq!(rt; replies.copy()?.items(), replies.items());
+fn messages_are_copied(rt: HostRuntime) -> Result<(), Fail> {
+    let commit = Record::Commit {
+        id: id(7),
+        time: Time::of(8),
+    };
+    let message = Message {
+        from: SiteId::of(0),
+        to: SiteId::of(1),
+        count: 2,
+        table: Times::new(vec![in rt.alloc(); 9, 0, 0, 3]?),
+        cover: Times::new(vec![in rt.alloc(); 9, 0]?),
+        records: Records::new(vec![in rt.alloc(); commit]?),
+    };
+    let copied = message.copy(rt.alloc())?;
+    assert_eq!(rt;
+        (copied.from, copied.to, copied.count),
+        (message.from, message.to, 2)
+    );
+    assert_eq!(rt; copied.table.items(), message.table.items());
+    assert_eq!(rt; copied.cover.items(), message.cover.items());
+    for r in copied.records.items() {
+        assert_eq!(rt; (r.id(), r.own_time()), (id(7), Time::of(8)));
+    }
+    assert_eq!(rt; copied.records.items().len(), 1);
     Ok(())
 }
 
