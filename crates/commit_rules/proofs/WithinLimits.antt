@@ -182,24 +182,3 @@ module _ (plan : PlanData) (n : Node) (h : IsWithinLimits plan n) where
 
   pub step_fine : (e : Entry) → MayBeAsked plan n.site e.input → IsFine plan (step plan n e)
   step_fine e may = clock_fine e.reading e.input (is_journaled e.input && is_spent plan n) may refl
-
-pub first_within : (plan : PlanData) (site : ℕ) → count_of plan ≤ most_sites → site < count_of plan → IsWithinLimits plan (empty_node plan site)
-first_within plan site few here =
-    let timed : clock plan (empty_node plan site) ≡ 0 =
-    get_or-replicate (count_of plan * count_of plan) (site * count_of plan + site) 0 0 (mul-add-lt site (count_of plan) site (count_of plan) here here) in
-    record {
-      few = few;
-      node = record {
-        here = here;
-        sized = length-replicate (count_of plan * count_of plan) 0;
-        small = All-replicate (λ t. t ≤ last_time) (count_of plan * count_of plan) 0 (omega arith);
-        sound = record {
-          records = All-nil (IsSpellableRecord (count_of plan));
-          rise = λ i j d below low. absurd (omega arith);
-          own = All-nil (λ r. origin r ≡ site → own_time r ≤ clock plan (empty_node plan site));
-          others = All-nil (λ r. origin r ≢ site → own_time r ≤ known plan (empty_node plan site) site (origin r));
-        };
-      };
-      few_open = omega arith;
-      low_clock = omega arith;
-    }
