@@ -1,5 +1,5 @@
 -- Facts that follow from the definitions alone; each is the clause of a function of `laws`.
-use Rattle.std.specs.Prelude.{◌≡◌, ◌⊎◌, ℕ, ◌<◌, ◌≤◌, nat_le, if◌then◌else◌, List, [], ◌∷◌, ◌++◌, length, Option, Some, option_map, Result, IfSome, IsErrOf}
+use Rattle.std.specs.Prelude.{◌≡◌, ◌⊎◌, ℕ, ◌<◌, ◌≤◌, nat_le, if◌then◌else◌, List, [], ◌∷◌, ◌++◌, length, Some, option_map, Result, IfSome, IsErrOf}
 use Rattle.disk_store.specs.Disk.{DiskState, IsImage, EachImage}
 use Rattle.disk_store.specs.Crash.{kept}
 use Rattle.disk_store.specs.Memory.{MemState, outlook_of, keep_of}
