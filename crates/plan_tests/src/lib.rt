@@ -11,3 +11,5 @@ mod matrix_texts;
 mod plan_texts;
 #[cfg(test)]
 mod planning;
+#[cfg(test)]
+mod schedule_texts;

@@ -1,0 +1,2 @@
+pub mod SaidParts
+pub mod SaidSteps

@@ -1,0 +1,5 @@
+pub mod Inputs
+pub mod Lines
+pub mod Reading
+pub mod Stepping
+pub mod Steps
