@@ -60,6 +60,11 @@ commits_commit log id time p h found =
 pub current_prepare : (log : List Record) (p : Transaction) (key : List ℕ) → All (IsBacked log) log → current (log ++ Prepare p ∷ []) key ≡ current log key
 current_prepare log p key h = ap (fold (version_after key) Initial) (commits_prepare log p h)
 
+pub current_abort : (log : List Record) (id : TxnId) (time : ℕ) (cause : TxnId) (key : List ℕ) → All (IsBacked log) log
+    → current (log ++ Abort id time cause ∷ []) key ≡ current log key
+current_abort log id time cause key h =
+    ap (fold (version_after key) Initial) (commits_grown log (Abort id time cause ∷ []) h ∙ append-nil (commits log))
+
 pub current_commit : (log : List Record) (id : TxnId) (time : ℕ) (p : Transaction) (key : List ℕ) → All (IsBacked log) log → prepare_of log id ≡ Some p
     → current (log ++ Commit id time ∷ []) key ≡ version_after key (current log key) (event_at time p)
 current_commit log id time p key h found =

@@ -19,7 +19,7 @@ contains_here x xs = (0, omega arith, refl)
 pub contains_later : {X : Type 0} (y : X) (xs : List X) (x : X) → Contains xs x → Contains (y ∷ xs) x
 contains_later y xs x h = Contains-append_right (y ∷ []) xs x h
 
-contains_nothing : {X : Type 0} (x : X) → Contains [] x → ⊥
+pub contains_nothing : {X : Type 0} (x : X) → Contains [] x → ⊥
 contains_nothing x h = let low : h.0 < 0 = h.1 in omega arith
 
 pub contains_cases : {X : Type 0} (y : X) (xs : List X) (x : X) → Contains (y ∷ xs) x → (y ≡ x) ⊎ Contains xs x

@@ -11,7 +11,7 @@ use Rattle.helios_model.specs.declared.records.Record.TheVariants.{Prepare, Comm
 use Rattle.helios_model.specs.Ids.{same_id}
 use Rattle.helios_model.specs.Transactions.{Transaction}
 use Rattle.helios_model.specs.Log.{ends, finished, prepare_in, prepares, prepare_of, unfinished}
-use Rattle.protocol_laws.proofs.Lists.{or_false, not_or, filter_twice, contains_filter, contains_from_filter, contains_from_filter_map}
+use Rattle.protocol_laws.proofs.Lists.{or_false, not_or, filter_twice, contains_filter, contains_from_filter, contains_filter_map, contains_from_filter_map}
 
 pub finished_one_more : (log : List Record) (r : Record) (id : TxnId) → finished (log ++ r ∷ []) id ≡ (finished log id || ends id r)
 finished_one_more log r id = list_any-append (ends id) log (r ∷ []) ∙ ap (λ b. finished log id || b) (or_false (ends id r))
@@ -83,3 +83,6 @@ prepare_stands log p h = by_record found.0 found.1 found.2
     by_record (Prepare q) there e = let same : q ≡ p = cc in subst (λ x. Contains log (Prepare x)) same there
     by_record (Commit id time) there e = absurd (cc)
     by_record (Abort id time cause) there e = absurd (cc)
+
+pub prepare_listed : (log : List Record) (p : Transaction) → Contains log (Prepare p) → Contains (prepares log) p
+prepare_listed log p h = contains_filter_map prepare_in log (Prepare p) p h refl

@@ -23,7 +23,7 @@ cut_prepared log before p after cut =
     subst (λ ps. Contains ps p) (sym (ap prepares cut ∙ prepares_append before (Prepare p ∷ after)))
     (Contains-append_right (prepares before) (p ∷ prepares after) p (contains_here p (prepares after)))
 
-clear_end : (log : List Record) (r : Record) (p : Transaction) → prepare_in r ≡ None → IsClearBehind log p → IsClearBehind (log ++ r ∷ []) p
+pub clear_end : (log : List Record) (r : Record) (p : Transaction) → prepare_in r ≡ None → IsClearBehind log p → IsClearBehind (log ++ r ∷ []) p
 clear_end log r p none h before after e = by_cut (split_last log r before (Prepare p) after e)
   where
     by_cut : ((log ≡ before) × (r ≡ Prepare p) × (after ≡ [])) ⊎ ((rest : List Record) × (after ≡ rest ++ r ∷ []) × (log ≡ before ++ Prepare p ∷ rest))
@@ -32,7 +32,7 @@ clear_end log r p none h before after e = by_cut (split_last log r before (Prepa
     by_cut (inr (rest, longer, cut)) =
         All-same (λ q. conflict p q ≡ false) (prepares after) (prepares rest) (ap prepares longer ∙ prepares_end rest r none) (h before rest cut)
 
-clear_prepare : (log : List Record) (q p : Transaction) → (Contains (prepares log) p → conflict p q ≡ false) → IsClearBehind log p
+pub clear_prepare : (log : List Record) (q p : Transaction) → (Contains (prepares log) p → conflict p q ≡ false) → IsClearBehind log p
     → IsClearBehind (log ++ Prepare q ∷ []) p
 clear_prepare log q p free h before after e = by_cut (split_last log (Prepare q) before (Prepare p) after e)
   where

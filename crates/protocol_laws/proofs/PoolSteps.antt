@@ -1,4 +1,4 @@
-use Rattle.std.proofs.Common.{◌≡◌, ◌∙◌, ap, refl, sym, ℕ, true, false, not, Option, Some, None, is_some, List, [], ◌∷◌, ◌++◌, filter, All, Contains}
+use Rattle.std.proofs.Common.{◌≡◌, ◌∙◌, ap, refl, sym, ℕ, true, false, not, ◌⊎◌, inl, inr, Option, Some, None, is_some, List, [], ◌∷◌, ◌++◌, filter, All, AllPairs, Contains}
 use Rattle.std.proofs.lemmas.List.Elements.{All-push, All-same, All-weaker, All-filter, All-contains}
 use Rattle.std.proofs.lemmas.List.Folds.{list_any_none}
 use Rattle.std.proofs.lemmas.List.Quantifiers.{all_pairs_push}
@@ -12,11 +12,27 @@ use Rattle.helios_model.specs.Log.{ends, finished, prepares, prepare_of, unfinis
 use Rattle.helios_model.specs.Serial.{Follows}
 use Rattle.protocol_laws.specs.Pool.{IsBacked, IsApart, PoolLaws}
 use Rattle.protocol_laws.specs.Order.{IsNew, IsAsked}
-use Rattle.protocol_laws.proofs.Lists.{find_passes, all_from, contains_from_filter}
-use Rattle.protocol_laws.proofs.Ids.{same_id_is, same_id_itself}
+use Rattle.protocol_laws.proofs.Lists.{find_passes, find_finds, all_from, contains_from_filter, pairs_cases}
+use Rattle.protocol_laws.proofs.Ids.{same_id_is, same_id_of, same_id_itself}
 use Rattle.protocol_laws.proofs.OneMore.{prepares_end, prepares_prepare, unfinished_end, unfinished_prepare, unfinished_has}
 use Rattle.protocol_laws.proofs.Committed.{backed_one_more, current_prepare, current_commit}
 use Rattle.protocol_laws.proofs.Fits.{follows_after, follows_same}
+
+-- a look-up of a Prepare's id finds this Prepare
+pub found_itself : (log : List Record) (p : Transaction) → AllPairs (λ a b. same_id a.id b.id ≡ false) (prepares log) → Contains (prepares log) p
+    → prepare_of log p.id ≡ Some p
+found_itself log p ids there = by_find (prepare_of log p.id) refl (find_finds (λ q. same_id q.id p.id) (prepares log) p there (same_id_itself p.id))
+  where
+    by_case : (q : Transaction) → same_id q.id p.id ≡ true → (p ≡ q) ⊎ ((same_id p.id q.id ≡ false) ⊎ (same_id q.id p.id ≡ false)) → q ≡ p
+    by_case q same (inl one) = sym one
+    by_case q same (inr (inl apart)) = absurd (both_ways (same_id p.id q.id) apart (same_id_of p.id q.id (sym (same_id_is q.id p.id same))))
+    by_case q same (inr (inr apart)) = absurd (both_ways (same_id q.id p.id) apart same)
+
+    by_find : (o : Option Transaction) → prepare_of log p.id ≡ o → is_some o ≡ true → prepare_of log p.id ≡ Some p
+    by_find None look none = absurd (cc)
+    by_find (Some q) look some =
+        let passes = find_passes (λ x. same_id x.id p.id) (prepares log) q look in
+        look ∙ ap Some (by_case q passes.1 (pairs_cases (λ a b. same_id a.id b.id ≡ false) (prepares log) p q ids there passes.0))
 
 -- a Commit or an Abort is backed by a Prepare of its id
 not_ending : (log : List Record) (id other : TxnId) → IsNew log id → is_some (prepare_of log other) ≡ true → same_id other id ≡ false

@@ -18,7 +18,7 @@ use Rattle.protocol_laws.proofs.Ids.{same_id_is}
 use Rattle.protocol_laws.proofs.Committed.{commits_commit, event_ends}
 
 -- one more commit that follows the map which the others made
-serial_one_more : (versions : List ℕ → Version) (es : List CommitEvent) (e : CommitEvent) → SerialFrom versions es
+pub serial_one_more : (versions : List ℕ → Version) (es : List CommitEvent) (e : CommitEvent) → SerialFrom versions es
     → Follows (λ key. fold (version_after key) (versions key) es) e.prepare → SerialFrom versions (es ++ e ∷ [])
 serial_one_more versions [] e h follows = (follows, tt)
 serial_one_more versions (x ∷ es) e h follows = (h.0, serial_one_more (λ key. version_after key (versions key) x) es e h.1 follows)

@@ -12,3 +12,14 @@ pub mod Symmetry
 pub mod Moves
 pub mod Clusters
 pub mod SmallSteps
+pub mod Views
+pub mod LogLaws
+pub mod Reach
+pub mod ClusterHistories
+pub mod ClusterAborts
+pub mod ReachedClusters
+pub mod Knowledge
+pub mod ManySites
+pub mod Later
+pub mod Told
+pub mod Safe

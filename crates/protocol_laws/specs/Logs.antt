@@ -1,12 +1,12 @@
 -- What holds of each site's log in each world.
-use Rattle.std.specs.Prelude.{◌≡◌, Bool, true, false, ℕ, ◌<◌, List, ◌∷◌, ◌++◌, length, drop, All, AllPairs, Contains}
-use Rattle.std.specs.List.{list_any}
+use Rattle.std.specs.Prelude.{◌≡◌, true, false, ℕ, ◌<◌, List, ◌∷◌, ◌++◌, length, drop, All, AllPairs, Contains}
 use Rattle.helios_model.specs.declared.ids.TxnId.{TxnId}
 use Rattle.helios_model.specs.declared.entries.Entry.{Entry}
 use Rattle.helios_model.specs.declared.records.Record.{Record}
 use Rattle.helios_model.specs.declared.records.Record.TheVariants.{Prepare, Commit, Abort}
 use Rattle.helios_model.specs.Ids.{same_id}
-use Rattle.helios_model.specs.Transactions.{Transaction, conflict}
+use Rattle.helios_model.specs.Transactions.{Transaction}
+use Rattle.helios_model.specs.ConflictOrder.{aborted, EndsFirst}
 use Rattle.helios_model.specs.Plans.{PlanData, count_of}
 use Rattle.helios_model.specs.Log.{ends, finished, prepares, current}
 use Rattle.helios_model.specs.Node.{Node, empty_node}
@@ -47,19 +47,6 @@ pub record EndingsFollow (plan : PlanData) (n : Node) : Type 0 where
 
 abbrev pub EachEndingFollows : Type 0
 EachEndingFollows = AtEachNode EndingsFollow
-
-abbrev pub aborts : TxnId → Record → Bool
-aborts id (Prepare p) = false
-aborts id (Commit other time) = false
-aborts id (Abort other time cause) = same_id other id
-
-abbrev pub aborted : List Record → TxnId → Bool
-aborted log id = list_any (aborts id) log
-
--- q's Prepare stands in the log, p's before it, and the two conflict: then p has its Commit or Abort before q's Prepare
-abbrev pub EndsFirst : List Record → Transaction → Transaction → Type 0
-EndsFirst log p q = (before after : List Record) → log ≡ before ++ Prepare q ∷ after → Contains (prepares before) p → conflict p q ≡ true
-    → finished before p.id ≡ true
 
 -- no Prepare behind an own unfinished one conflicts with it; and of two that conflict, of which the later one is own, or
 -- the earlier one is own and never aborted, the earlier one is ended before the later one is taken

@@ -6,8 +6,6 @@ use Rattle.helios_model.specs.Plans.{PlanData, count_of, rtt, latency}
 use Rattle.helios_model.specs.Log.{origin, own_time}
 use Rattle.helios_model.specs.Node.{Node, known}
 use Rattle.protocol_laws.specs.Shapes.{Rises}
-use Rattle.protocol_laws.specs.Pool.{PoolLaws}
-use Rattle.protocol_laws.specs.Order.{OrderLaws}
 
 -- the own times of each origin rise strictly from above 0, and each is at most what the node's own row of times has of
 -- its origin: for an own record that is the site's clock
@@ -22,10 +20,3 @@ IsWaited plan n (Prepare p) = Unit {0}
 IsWaited plan n (Commit id time) = id.site ≡ n.site → (j : ℕ) → j < count_of plan → j ≢ n.site
     → id.time + latency plan n.site ≤ known plan n n.site j + rtt plan n.site j
 IsWaited plan n (Abort id time cause) = Unit {0}
-
--- what each node keeps, whatever it is asked
-pub record NodeLaws (plan : PlanData) (n : Node) : Type 0 where
-  pub times : OwnTimesRise plan n
-  pub pool : PoolLaws n.site n.log
-  pub order : OrderLaws n.site n.log
-  pub waited : All (IsWaited plan n) n.log
