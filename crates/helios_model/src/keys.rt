@@ -103,6 +103,14 @@ impl Val {
         }
     }
 
+    /// The value of these bytes, which the caller knows to be few enough.
+    pub fn of(bytes: Bytes) -> Val
+        requires { IsValue bytes }
+        ensures { result ≡ bytes }
+    {
+        Val { bytes }
+    }
+
     pub fn items(&self) -> &[u8]
         ensures value { result.now ≡ self.now }
         ensures small { IsValue self.now }

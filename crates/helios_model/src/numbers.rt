@@ -1,4 +1,4 @@
-ghost use Rattle.std.specs.Prelude.{◌≡◌, ℕ, List, IfOk};
+ghost use Rattle.std.specs.Prelude.{◌≡◌, ◌<◌, ℕ, List, IfOk, length, slice_set};
 
 use std::alloc::AllocError;
 use std::marker::Model;
@@ -108,6 +108,14 @@ impl Times {
         ensures { result.items ≡ self }
     {
         self.items
+    }
+
+    /// Puts another time at a place.
+    pub fn set(&mut self, place: usize, time: u64)
+        requires { place < length self.old }
+        ensures { self.new ≡ slice_set self.old place time }
+    {
+        self.items[place] = time;
     }
 
     pub fn copy(&self) -> Result<Times, AllocError>

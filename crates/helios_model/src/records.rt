@@ -2,8 +2,9 @@
 ghost use Rattle.std.specs.Prelude.{◌≡◌, ℕ, List, IfOk};
 ghost use Rattle.helios_model.specs.declared.records.Record.{Record};
 ghost use Rattle.helios_model.specs.declared.records.CommitEvent.{CommitEvent};
+ghost use Rattle.helios_model.specs.Log.{id_of, origin, own_time};
 
-use crate::ids::{Time, TxnId};
+use crate::ids::{SiteId, Time, TxnId};
 use crate::transactions::Prepare;
 use std::alloc::{AllocError, Global};
 use std::marker::Model;
@@ -20,6 +21,35 @@ pub enum Record {
 }
 
 impl Record {
+    /// The name of the record's transaction.
+    pub fn id(&self) -> TxnId
+        ensures { result ≡ id_of self.now }
+    {
+        match self {
+            Record::Prepare(p) => p.id(),
+            Record::Commit { id, .. } => *id,
+            Record::Abort { id, .. } => *id,
+        }
+    }
+
+    /// The site that made the record.
+    pub fn origin(&self) -> SiteId
+        ensures { result ≡ origin self.now }
+    {
+        self.id().site
+    }
+
+    /// When its origin made the record, in half microseconds.
+    pub fn own_time(&self) -> Time
+        ensures { result ≡ own_time self.now }
+    {
+        match self {
+            Record::Prepare(p) => p.id().time,
+            Record::Commit { time, .. } => *time,
+            Record::Abort { time, .. } => *time,
+        }
+    }
+
     pub fn copy(&self) -> Result<Record, AllocError>
         ensures { IfOk result (λ copied. copied ≡ self.now) }
     {

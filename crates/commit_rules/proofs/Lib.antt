@@ -1,0 +1,13 @@
+pub mod Rests
+pub mod Own
+pub mod Arriving
+pub mod Parted
+pub mod Asked
+pub mod Standing
+pub mod Lists
+pub mod OpenOnes
+pub mod Sound
+pub mod TakenSound
+pub mod Spelled
+pub mod ArrivedSound
+pub mod WithinLimits

@@ -1,0 +1,28 @@
+use Rattle.std.proofs.Common.{sym, subst}
+use Rattle.helios_model.specs.Spellable.{IsSpellableReply}
+use Rattle.helios_model.specs.Step.{MayBeAsked}
+use Rattle.commit_rules.specs.Core.{IsCoreOf}
+use Rattle.commit_rules.specs.Limits.{IsWithinLimits}
+use Rattle.commit_rules.proofs.Standing.{outcome_of}
+use Rattle.commit_rules.proofs.WithinLimits.{step_fine}
+use Rattle.commit_rules.proofs.rules.Core.step.Goals as goal
+
+pub invariant_of-core : goal.invariant_of-core
+invariant_of-core c =
+    let may = subst (λ core. MayBeAsked core.plan core.site c.args.entry.input) (sym c.self.view_is) c.requires in
+    let fine = step_fine c.self.inside.parts.plan c.self.inside.parts.node c.self.invariant c.args.entry may in
+    subst (λ plan. IsWithinLimits plan c.take_step.new.parts.node) (sym c.in_ok-reply.ensures.plan)
+    (subst (λ s. IsWithinLimits c.self.inside.parts.plan s.node) c.in_ok-reply.ensures.answer fine.node)
+
+pub returns-clause-outcome : goal.returns-clause-outcome
+returns-clause-outcome c =
+    λ plan n is.
+    outcome_of c.self.inside.parts c.take_step.new.parts c.args.entry c.in_ok-reply.reply c.in_ok-reply.added c.in_ok-reply.commits
+    c.in_ok-reply.ensures.answer c.in_ok-reply.ensures.plan c.in_ok-reply.ensures.added c.in_ok-reply.ensures.commits plan n
+    (subst (λ core. IsCoreOf core plan n) (sym c.self.view_is) is)
+
+pub returns-clause-spelled : goal.returns-clause-spelled
+returns-clause-spelled c =
+    let may = subst (λ core. MayBeAsked core.plan core.site c.args.entry.input) (sym c.self.view_is) c.requires in
+    let fine = step_fine c.self.inside.parts.plan c.self.inside.parts.node c.self.invariant c.args.entry may in
+    subst (λ s. IsSpellableReply s.reply) c.in_ok-reply.ensures.answer fine.reply

@@ -1,0 +1,4 @@
+pub mod Core
+pub mod Scan
+pub mod Outcome
+pub mod Limits

@@ -1,0 +1,14 @@
+//! The core of a site's node: it follows the rules step by step, and keeps the whole log as a list.
+#![tactic(auto)]
+
+mod answers;
+mod arrivals;
+mod fresh;
+mod messages;
+mod parts;
+mod requests;
+mod rules;
+mod scan;
+mod values;
+
+pub use rules::{Core, Outcome, Summary};
