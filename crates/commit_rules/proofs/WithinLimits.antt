@@ -183,6 +183,10 @@ module _ (plan : PlanData) (n : Node) (h : IsWithinLimits plan n) where
   pub step_fine : (e : Entry) → MayBeAsked plan n.site e.input → IsFine plan (step plan n e)
   step_fine e may = clock_fine e.reading e.input (is_journaled e.input && is_spent plan n) may refl
 
+  -- the current version of a key has a spelling
+  pub current_fine : (key : List ℕ) → IsSpellableVersion (current n.log key)
+  current_fine key = version_spelled (count_of plan) n.log key h.few spelled
+
 pub first_within : (plan : PlanData) (site : ℕ) → count_of plan ≤ most_sites → site < count_of plan → IsWithinLimits plan (empty_node plan site)
 first_within plan site few here =
     let timed : clock plan (empty_node plan site) ≡ 0 =
