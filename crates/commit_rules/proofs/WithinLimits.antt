@@ -182,3 +182,7 @@ module _ (plan : PlanData) (n : Node) (h : IsWithinLimits plan n) where
 
   pub step_fine : (e : Entry) → MayBeAsked plan n.site e.input → IsFine plan (step plan n e)
   step_fine e may = clock_fine e.reading e.input (is_journaled e.input && is_spent plan n) may refl
+
+  -- the current version of a key has a spelling
+  pub current_fine : (key : List ℕ) → IsSpellableVersion (current n.log key)
+  current_fine key = version_spelled (count_of plan) n.log key h.few spelled

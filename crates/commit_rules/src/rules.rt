@@ -3,7 +3,7 @@ ghost use Rattle.std.specs.Prelude.{◌≡◌, ◌<◌, IfOk, length, drop};
 ghost use Rattle.helios_model.specs.Plans.{PlanData, count_of};
 ghost use Rattle.helios_model.specs.Log.{current, current_value};
 ghost use Rattle.helios_model.specs.Node.{Node, empty_node, status};
-ghost use Rattle.helios_model.specs.Spellable.{IsSpellableReply};
+ghost use Rattle.helios_model.specs.Spellable.{IsSpellableReply, IsSpellableVersion};
 ghost use Rattle.helios_model.specs.Step.{MayBeAsked, step};
 ghost use Rattle.helios_model.specs.World.{own_commits};
 
@@ -116,6 +116,7 @@ impl Core {
     /// The current version and value of a key; the empty value where nothing was written.
     pub fn current(&self, key: &Key) -> (Version, &[u8])
         ensures version { (plan : PlanData) (n : Node) → IsCoreOf self.now plan n → result.0 ≡ current n.log key.now }
+        ensures spelled { IsSpellableVersion result.0 }
         ensures value { (plan : PlanData) (n : Node) → IsCoreOf self.now plan n → result.1.now ≡ current_value n.log key.now }
     {
         let log = self.parts.log();

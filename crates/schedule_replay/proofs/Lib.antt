@@ -1,6 +1,10 @@
 pub mod Rests
-pub mod Limits
+pub mod Pushed
+pub mod Asked
 pub mod Grows
-pub mod Stands
-pub mod Reaches
 pub mod Telling
+pub mod Takes
+pub mod Handed
+pub mod Reaches
+pub mod Stands
+pub mod Closing

@@ -1,44 +1,103 @@
-use Rattle.std.specs.Prelude.{◌≡◌, ℕ, ◌+◌, ◌<◌, ◌≤◌, ◌++◌, List, length, slice_index_or}
-use Rattle.std.specs.List.{flat_map}
+-- What a replay stands for between its steps, and what it does in one of them.
+use Rattle.std.specs.Prelude.{◌≡◌, ℕ, ◌+◌, ◌*◌, ◌<◌, ◌≤◌, ◌++◌, List, length, All, Option, Some, None, IfSome, IsSomeAnd, slice_get, slice_index_or, slice_set}
 use Rattle.helios_model.specs.declared.entries.Entry.{Entry}
+use Rattle.helios_model.specs.declared.messages.Message.{Message}
+use Rattle.helios_model.specs.Limits.{most_inputs}
 use Rattle.helios_model.specs.Plans.{PlanData, count_of}
-use Rattle.helios_model.specs.Node.{empty_node}
-use Rattle.helios_model.specs.Step.{after_entries}
-use Rattle.helios_model.specs.World.{World, Told, first_world, node_of, replies}
-use Rattle.schedule_replay.specs.declared.inputs.Planned.{Planned}
-use Rattle.schedule_replay.specs.declared.steps.Step.{Step}
-use Rattle.schedule_replay.specs.declared.sites.Output.{Output}
-use Rattle.schedule_replay.specs.Held.{Held}
-use Rattle.schedule_replay.specs.Entries.{entries_for}
-use Rattle.schedule_replay.specs.Report.{reply_line, lines_from, reached, refusals_in}
+use Rattle.helios_model.specs.Node.{Node, empty_node}
+use Rattle.helios_model.specs.Spellable.{IsMessageOf}
+use Rattle.helios_model.specs.Step.{IsFor, MayBeAsked, after_entries}
+use Rattle.helios_model.specs.World.{World, MayRun, first_world, messages_in, node_of, own_commits, replies}
+use Rattle.commit_rules.specs.Core.{CoreState, IsCoreOf}
+use Rattle.schedule_text.specs.declared.planned.Planned.{Planned}
+use Rattle.schedule_text.specs.declared.planned.Planned.TheVariants.{Get, Status, Request, Pull, Push}
+use Rattle.schedule_text.specs.declared.steps.Step.{Step}
+use Rattle.schedule_text.specs.Steps.{IsInput}
+use Rattle.schedule_replay.specs.declared.batches.Output.{Output}
+use Rattle.schedule_replay.specs.Entries.{entries_for, events_for, reached}
+use Rattle.schedule_replay.specs.Refusals.{refusal_of}
+use Rattle.schedule_replay.specs.Report.{lines_from, refusals_in, reply_lines}
 
--- a line for each reply
-abbrev pub reply_lines : ℕ → List Told → List ℕ
-reply_lines number told = flat_map (λ t. reply_line number t.site t.reply) told
+-- a site of the plan can take the input, over the messages that were sent
+abbrev pub CanTake : PlanData → ℕ → List Message → Planned → Type 0
+CanTake plan site sent (Get key) = IsInput plan site (Get key)
+CanTake plan site sent (Status id) = IsInput plan site (Status id)
+CanTake plan site sent (Request at reads puts) = IsInput plan site (Request at reads puts)
+CanTake plan site sent (Pull at to) = IsInput plan site (Pull at to)
+CanTake plan site sent (Push at message) = IfSome (slice_get sent message) (IsFor plan site)
 
--- the core after a batch
-abbrev pub core_after : Held → List Planned → Held
-core_after h inputs = record { plan = h.plan; node = after_entries h.plan h.node (entries_for h.node.log inputs) }
+-- a core of a site that can take these inputs
+pub record CanTakeAll (core : CoreState) (site : ℕ) (sent : List Message) (inputs : List Planned) : Type 0 where
+  pub plan : PlanData
+  pub node : Node
+  pub stands : IsCoreOf core plan node
+  pub here : node.site ≡ site
+  pub each : All (CanTake plan site sent) inputs
 
-abbrev pub held_of : PlanData → World → ℕ → Held
-held_of plan w site = record { plan = plan; node = node_of plan w site }
+-- the same where each input that is not refused can be taken
+pub record CanTakeUnrefused (core : CoreState) (site : ℕ) (sent : List Message) (inputs : List Planned) : Type 0 where
+  pub plan : PlanData
+  pub node : Node
+  pub stands : IsCoreOf core plan node
+  pub here : node.site ≡ site
+  pub each : All (IsInput plan site) inputs
+  pub formed : All (IsMessageOf (count_of plan)) sent
 
--- a site's core before any step
-abbrev pub first_held : PlanData → ℕ → Held
-first_held plan site = record { plan = plan; node = empty_node plan site }
+-- a core of a site that may be asked these entries
+pub record CanAnswer (core : CoreState) (site : ℕ) (entries : List Entry) : Type 0 where
+  pub plan : PlanData
+  pub node : Node
+  pub stands : IsCoreOf core plan node
+  pub here : node.site ≡ site
+  pub each : All (λ e. MayBeAsked plan site e.input) entries
 
--- a core took these entries from the one to the other, and a line was added for each reply
-pub record HasTold (number : ℕ) (before : Held) (text : List ℕ) (refusals : ℕ) (entries : List Entry) (after : Held) (text' : List ℕ) (refusals' : ℕ) : Type 0 where
-  pub core : after ≡ record { plan = before.plan; node = after_entries before.plan before.node entries }
-  pub lines : text' ≡ text ++ reply_lines number (replies before.plan before.node entries)
-  pub refused : refusals' ≡ refusals + refusals_in (replies before.plan before.node entries)
-  pub few : refusals' ≤ refusals + length entries
+-- what these inputs ask of a site with this node may be asked
+abbrev pub AreAsked : PlanData → Node → ℕ → List Message → List Planned → Type 0
+AreAsked plan n site sent inputs = All (λ e. MayBeAsked plan site e.input) (entries_for n.log sent inputs)
 
--- cores and output stand for what these steps reach: each site's node, the lines, the history and the refusals
-pub record IsStandingAt (plan : PlanData) (steps : List Step) (cores : List Held) (output : Output) : Type 0 where
+-- a node of a plan took these entries in a step with this number: a core stands for the node after them, the replies were
+-- told, and their messages released
+pub record HasTold (number : ℕ) (plan : PlanData) (n : Node) (before : Output) (entries : List Entry) (core : CoreState) (after : Output) : Type 0 where
+  pub stands : IsCoreOf core plan (after_entries plan n entries)
+  pub lines : after.text.items ≡ before.text.items ++ reply_lines number (length before.sent.items) (replies plan n entries)
+  pub sent : after.sent.items ≡ before.sent.items ++ messages_in (replies plan n entries)
+  pub commits : after.commits.items ≡ before.commits.items ++ own_commits n.site (after_entries plan n entries).log (length n.log)
+  pub refusals : after.refusals ≡ before.refusals + refusals_in (replies plan n entries)
+  pub few : after.refusals ≤ before.refusals + length entries
+
+-- the core at a site stands for this node
+abbrev pub StandsAt : List (Option CoreState) → PlanData → ℕ → Node → Type 0
+StandsAt cores plan site n = IsSomeAnd (slice_index_or cores site None) (λ core. IsCoreOf core plan n)
+
+-- the core at a site can take these inputs
+abbrev pub CanRun : List (Option CoreState) → ℕ → Output → List Planned → Type 0
+CanRun cores site output inputs = (site < length cores) × IsSomeAnd (slice_index_or cores site None) (λ core. CanTakeUnrefused core site output.sent.items inputs)
+
+-- the same of a batch, whose core stands at its site afterwards
+pub record HasRun (number : ℕ) (plan : PlanData) (n : Node) (site : ℕ) (inputs : List Planned) (cores : List (Option CoreState)) (before : Output) (cores' : List (Option CoreState)) (after : Output) : Type 0 where
+  pub core : CoreState
+  pub put : cores' ≡ slice_set cores site (Some core)
+  pub told : HasTold number plan n before (entries_for n.log before.sent.items inputs) core after
+  pub asked : AreAsked plan n site before.sent.items inputs
+
+-- so many cores stand for the empty nodes of the first sites of a plan
+pub record AreFirst (plan : PlanData) (count : ℕ) (cores : List (Option CoreState)) : Type 0 where
+  pub sites : length cores ≡ count
+  pub nodes : (site : ℕ) → site < count → StandsAt cores plan site (empty_node plan site)
+
+-- the cores stand for the nodes of a world
+pub record StandAt (plan : PlanData) (w : World) (cores : List (Option CoreState)) : Type 0 where
   pub sites : length cores ≡ count_of plan
-  pub nodes : (site : ℕ) (d : Held) → site < count_of plan → slice_index_or cores site d ≡ held_of plan (reached plan steps) site
+  pub nodes : (site : ℕ) → site < count_of plan → StandsAt cores plan site (node_of plan w site)
+
+-- cores and output stand for what these steps reach, none of which is refused: each site's node, the lines, the messages, the
+-- history and the refusals that were told
+pub record IsStandingAt (plan : PlanData) (steps : List Step) (held : List (Option CoreState)) (output : Output) : Type 0 where
+  pub cores : StandAt plan (reached plan steps) held
   pub lines : output.text.items ≡ lines_from plan (first_world plan) 0 steps
+  pub sent : output.sent.items ≡ (reached plan steps).sent
   pub commits : output.commits.items ≡ (reached plan steps).history
   pub refusals : output.refusals ≡ refusals_in (reached plan steps).told
-  pub few : output.refusals ≤ length steps
+  pub few : output.refusals ≤ most_inputs * length steps
+  pub may : MayRun plan (first_world plan) (events_for plan (first_world plan) steps)
+  pub unrefused : refusal_of plan steps ≡ None

@@ -1,75 +1,136 @@
 //! The entries of a batch: what each planned input asks of a site as the batch begins.
-ghost use Rattle.std.specs.Prelude.{◌≡◌, IfOk, All, map};
+ghost use Rattle.std.specs.Prelude.{◌≡◌, ◌++◌, All, IfOk, IfSome, OnOk, map};
+ghost use Rattle.std.specs.Option.{option_to_list};
+ghost use Rattle.commit_rules.specs.Core.{IsCoreOf};
+ghost use Rattle.helios_model.specs.Node.{Node};
+ghost use Rattle.helios_model.specs.Plans.{PlanData};
+ghost use Rattle.helios_model.specs.Spellable.{IsSpellableVersion};
+ghost use Rattle.helios_model.specs.Step.{MayBeAsked};
 ghost use Rattle.schedule_replay.specs.Entries.{entries_for, entry_for, read_for, version_for};
-ghost use Rattle.schedule_replay.specs.Replayable.{IsPlannedInput};
+ghost use Rattle.schedule_replay.specs.Standing.{CanTake, CanTakeAll};
+ghost use Rattle.schedule_text.specs.Steps.{ArePlannedReads, IsPlannedVersion};
+ghost use Rattle.helios_model.specs.Spellable.{AreSpellablePuts, IsSpellableAsk};
 
-use crate::inputs::Planned;
-use crate::reads::{PlannedRead, PlannedVersion};
-use crate::scan::current_version;
-use helios_model::{Ask, Entry, Input, ReadItem, Reads, Record, Version};
+use crate::refusal::message_at;
+use commit_rules::Core;
+use helios_model::{Ask, Entry, Input, Message, Puts, ReadItem, Reads, Version};
+use schedule_text::{Planned, PlannedRead, PlannedVersion};
 use std::alloc::{AllocError, Global};
 
-fn version_for(log: &[Record], read: &PlannedRead) -> Version
-    ensures { result ≡ version_for log.now read.now.key read.now.version }
+fn version_for(core: &Core, read: &PlannedRead) -> Version
+    requires { IsPlannedVersion read.now.version }
+    ensures value { (plan : PlanData) (n : Node) → IsCoreOf core.now plan n → result ≡ version_for n.log read.now.key read.now.version }
+    ensures spelled { IsSpellableVersion result }
 {
     match read.version {
         PlannedVersion::At(version) => version,
-        PlannedVersion::Current => current_version(log, &read.key),
+        PlannedVersion::Current => core.current(&read.key).0,
     }
 }
 
-fn read_for(log: &[Record], read: &PlannedRead) -> Result<ReadItem, AllocError>
-    ensures { IfOk result (λ r. r ≡ read_for log.now read.now) }
+fn read_for(core: &Core, read: &PlannedRead) -> Result<ReadItem, AllocError>
+    requires { IsPlannedVersion read.now.version }
+    ensures value { IfOk result (λ r. (plan : PlanData) (n : Node) → IsCoreOf core.now plan n → r ≡ read_for n.log read.now) }
+    ensures key { IfOk result (λ r. r.key ≡ read.now.key) }
+    ensures spelled { IfOk result (λ r. IsSpellableVersion r.version) }
 {
     let key = read.key.copy()?;
-    let version = version_for(log, read);
+    let version = version_for(core, read);
     Ok(ReadItem { key, version })
 }
 
-fn reads_for(
-    alloc: Global,
-    log: &[Record],
-    reads: &[PlannedRead],
-) -> Result<Vec<ReadItem>, AllocError>
-    ensures { IfOk result (λ rs. rs.items ≡ map (read_for log.now) reads.now) }
+fn reads_for(alloc: Global, core: &Core, reads: &[PlannedRead]) -> Result<Vec<ReadItem>, AllocError>
+    requires { All (λ r. IsPlannedVersion r.version) reads.now }
+    ensures value { IfOk result (λ rs. (plan : PlanData) (n : Node) → IsCoreOf core.now plan n → rs.items ≡ map (read_for n.log) reads.now) }
+    ensures keys { IfOk result (λ rs. map (λ r. r.key) rs.items ≡ map (λ r. r.key) reads.now) }
+    ensures spelled { IfOk result (λ rs. All (λ r. IsSpellableVersion r.version) rs.items) }
 {
-    let mut items = Vec::new(alloc);
+    let mut items = Vec::with_capacity(alloc, reads.len())?;
     for read in reads {
-        items.push(read_for(log, read)?)?;
+        items.push(read_for(core, read)?)?;
     }
     Ok(items)
 }
 
-#[tactic(auto, using(crate::proofs::Limits::is_ask))]
-fn entry_for(alloc: Global, log: &[Record], input: &Planned) -> Result<Entry, AllocError>
-    requires { IsPlannedInput input.now }
-    ensures { IfOk result (λ e. e ≡ entry_for log.now input.now) }
+/// What a planned request asks of a site.
+#[tactic(auto, using(crate::proofs::Asked::is_ask, crate::proofs::Asked::is_asked))]
+fn ask_for(
+    alloc: Global,
+    core: &Core,
+    reads: &[PlannedRead],
+    puts: &Puts,
+) -> Result<Ask, AllocError>
+    requires reads { ArePlannedReads reads.now }
+    requires puts { AreSpellablePuts puts.now }
+    ensures value { IfOk result (λ ask. (plan : PlanData) (n : Node) → IsCoreOf core.now plan n → ask ≡ record { reads = map (read_for n.log) reads.now; puts = puts.now }) }
+    ensures spelled { IfOk result IsSpellableAsk }
 {
-    match input {
-        Planned::Request { at, reads, puts } => {
-            let reads = Reads::new(reads_for(alloc, log, reads.items())?);
-            let ask = Ask::of(reads, puts.copy()?);
-            Ok(Entry {
+    let reads = Reads::new(reads_for(alloc, core, reads)?);
+    Ok(Ask::of(reads, puts.copy()?))
+}
+
+/// What a planned input asks of a site; None where no message has its number.
+fn entry_for(
+    alloc: Global,
+    core: &Core,
+    sent: &[Message],
+    input: &Planned,
+) -> Result<Option<Entry>, AllocError>
+    requires { CanTake core.now.plan core.now.site sent.now input.now }
+    ensures value { IfOk result (λ found. (plan : PlanData) (n : Node) → IsCoreOf core.now plan n → found ≡ entry_for n.log sent.now input.now) }
+    ensures asked { IfOk result (λ found. IfSome found (λ e. MayBeAsked core.now.plan core.now.site e.input)) }
+{
+    let entry = match input {
+        Planned::Get(key) => Entry {
+            reading: 0,
+            input: Input::Get(key.copy()?),
+        },
+        Planned::Status(id) => Entry {
+            reading: 0,
+            input: Input::Status(*id),
+        },
+        Planned::Request { at, reads, puts } => Entry {
+            reading: *at,
+            input: Input::Request(ask_for(alloc, core, reads.items(), puts)?),
+        },
+        Planned::Pull { at, to } => Entry {
+            reading: *at,
+            input: Input::Pull(*to),
+        },
+        Planned::Push { at, message } => match message_at(sent, *message) {
+            Some(m) => Entry {
                 reading: *at,
-                input: Input::Request(ask),
-            })
-        }
+                input: Input::Push(m.copy(alloc)?),
+            },
+            None => return Ok(None),
+        },
+    };
+    Ok(Some(entry))
+}
+
+fn push_found(entries: &mut Vec<Entry>, found: Option<Entry>) -> Result<(), AllocError>
+    ensures { OnOk result (entries.new.items ≡ entries.old.items ++ option_to_list found) }
+{
+    if let Some(entry) = found {
+        entries.push(entry)?;
     }
+    Ok(())
 }
 
 /// The entries of a batch, as they stand when it begins.
-#[tactic(auto, using(crate::proofs::Limits::planned_at))]
 pub(crate) fn entries_for(
     alloc: Global,
-    log: &[Record],
+    core: &Core,
+    sent: &[Message],
     inputs: &[Planned],
 ) -> Result<Vec<Entry>, AllocError>
-    requires { All IsPlannedInput inputs.now }
-    ensures { IfOk result (λ es. es.items ≡ entries_for log.now inputs.now) }
+    requires { All (CanTake core.now.plan core.now.site sent.now) inputs.now }
+    ensures value { IfOk result (λ es. (plan : PlanData) (n : Node) → IsCoreOf core.now plan n → es.items ≡ entries_for n.log sent.now inputs.now) }
+    ensures asked { IfOk result (λ es. All (λ e. MayBeAsked core.now.plan core.now.site e.input) es.items) }
 {
-    let mut entries = Vec::new(alloc);
+    let mut entries = Vec::with_capacity(alloc, inputs.len())?;
     for input in inputs {
-        entries.push(entry_for(alloc, log, input)?)?;
+        push_found(&mut entries, entry_for(alloc, core, sent, input)?)?;
     }
     Ok(entries)
 }

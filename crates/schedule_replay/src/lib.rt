@@ -1,18 +1,15 @@
-// Replays a schedule of batches at the sites of a cluster, each site with its whole log as a plain list.
-// The layer above uses `replay`: its report is that of the world which the steps reach by the rules of the node.
+//! Replays a schedule at the sites of a cluster, each with its core, step by step.
+//! The layer above uses `replay`: its report is that of the world which the steps reach by the rules of the node, and
+//! its refusal is the first one of the steps.
 #![tactic(auto)]
 
+mod batches;
 mod entries;
-pub mod input_lists;
-pub mod inputs;
 mod lines;
-mod node;
-pub mod planned;
-pub mod reads;
-pub mod replay;
-mod requests;
-mod scan;
-pub mod schedule;
-mod sites;
-pub mod step_lists;
-pub mod steps;
+mod refusal;
+mod report;
+mod steps;
+
+pub use refusal::ReplayRefusal;
+pub use report::Report;
+pub use steps::replay;

@@ -1,10 +1,10 @@
-// The lines of a report.
-ghost use Rattle.std.specs.Prelude.{◌≡◌, ◌++◌, OnOk, IfOk, string_bytes};
-ghost use Rattle.schedule_replay.specs.Report.{commit_line, is_refusal, reply_line, reply_text, site_line};
+//! The lines of a report.
+ghost use Rattle.std.specs.Prelude.{◌≡◌, ◌++◌, OnOk, length, codes, decimal};
+ghost use Rattle.schedule_replay.specs.Report.{commit_line, is_refusal, reply_text, site_text, state_text, step_line, value_text};
 ghost use Rattle.helios_model.specs.Ids.{version_text};
 
-use crate::node::Core;
-use helios_model::{CommitEvent, Key, Reply, SiteId, Version};
+use commit_rules::Summary;
+use helios_model::{CommitEvent, Key, Message, Reply, SiteId, State, Val, Version};
 use std::alloc::{AllocError, Global};
 
 pub(crate) fn is_refusal(reply: &Reply) -> bool
@@ -15,6 +15,10 @@ pub(crate) fn is_refusal(reply: &Reply) -> bool
         Reply::Committed(_) => false,
         Reply::Overwritten { .. } => true,
         Reply::Conflict(_) => true,
+        Reply::Value { .. } => false,
+        Reply::State(_) => false,
+        Reply::Sent(_) => false,
+        Reply::Taken => false,
         Reply::ClockSpent => false,
         Reply::PoolFull => false,
     }
@@ -40,14 +44,70 @@ fn push_overwritten(
     key: &Key,
     version: &Version,
 ) -> Result<(), AllocError>
-    ensures { OnOk result (text.new.items ≡ text.old.items ++ reply_text (Reply.Overwritten key.now version.now)) }
+    ensures { OnOk result (text.new.items ≡ text.old.items ++ (codes "overwritten " ++ key.now ++ (codes " " ++ version_text version.now))) }
 {
     let rest = format!(in alloc; " {version}")?;
     push_three(text, b"overwritten ", key.items(), rest.as_bytes())
 }
 
-pub(crate) fn push_reply(alloc: Global, text: &mut Vec<u8>, reply: &Reply) -> Result<(), AllocError>
-    ensures { OnOk result (text.new.items ≡ text.old.items ++ reply_text reply.now) }
+/// Adds the bytes of a value in hexadecimal.
+fn push_bytes(alloc: Global, text: &mut Vec<u8>, value: &[u8]) -> Result<(), AllocError>
+    ensures { OnOk result (text.new.items ≡ text.old.items ++ value_text value.now) }
+{
+    if value.is_empty() {
+        text.extend_from_slice(b"-")
+    } else {
+        text.extend_from_slice(hex::encode(alloc, value)?.as_bytes())
+    }
+}
+
+fn push_value(
+    alloc: Global,
+    text: &mut Vec<u8>,
+    version: &Version,
+    value: &Val,
+) -> Result<(), AllocError>
+    ensures { OnOk result (text.new.items ≡ text.old.items ++ (codes "value " ++ version_text version.now ++ codes " " ++ value_text value.now)) }
+{
+    let head = format!(in alloc; "value {version} ")?;
+    text.extend_from_slice(head.as_bytes())?;
+    push_bytes(alloc, text, value.items())
+}
+
+fn push_state(alloc: Global, text: &mut Vec<u8>, state: &State) -> Result<(), AllocError>
+    ensures { OnOk result (text.new.items ≡ text.old.items ++ state_text state.now) }
+{
+    match state {
+        State::Pending => text.extend_from_slice(b"state pending"),
+        State::Committed => text.extend_from_slice(b"state committed"),
+        State::Aborted(cause) => text.extend_from_slice(format!(in alloc;
+            "state aborted {cause}"
+        )?.as_bytes()),
+        State::Unknown => text.extend_from_slice(b"state unknown"),
+    }
+}
+
+fn push_sent(
+    alloc: Global,
+    text: &mut Vec<u8>,
+    released: usize,
+    m: &Message,
+) -> Result<(), AllocError>
+    ensures { OnOk result (text.new.items ≡ text.old.items ++ (codes "sent " ++ decimal released ++ codes " " ++ decimal (length m.now.records))) }
+{
+    let length = m.records.items().len();
+    let line = format!(in alloc; "sent {released} {length}")?;
+    text.extend_from_slice(line.as_bytes())
+}
+
+/// Adds a reply, before which so many messages were released.
+fn push_reply(
+    alloc: Global,
+    text: &mut Vec<u8>,
+    released: usize,
+    reply: &Reply,
+) -> Result<(), AllocError>
+    ensures { OnOk result (text.new.items ≡ text.old.items ++ reply_text released reply.now) }
 {
     match reply {
         Reply::Prepared(id) => text.extend_from_slice(format!(in alloc;
@@ -60,24 +120,51 @@ pub(crate) fn push_reply(alloc: Global, text: &mut Vec<u8>, reply: &Reply) -> Re
         Reply::Conflict(id) => text.extend_from_slice(format!(in alloc;
             "conflict {id}"
         )?.as_bytes()),
+        Reply::Value { version, value } => push_value(alloc, text, version, value),
+        Reply::State(state) => push_state(alloc, text, state),
+        Reply::Sent(m) => push_sent(alloc, text, released, m),
+        Reply::Taken => text.extend_from_slice(b"taken"),
         Reply::ClockSpent => text.extend_from_slice(b"clock-spent"),
         Reply::PoolFull => text.extend_from_slice(b"pool-full"),
     }
 }
 
+fn push_head(alloc: Global, text: &mut Vec<u8>, number: u64, site: SiteId) -> Result<(), AllocError>
+    ensures { OnOk result (text.new.items ≡ text.old.items ++ (decimal number ++ codes " " ++ decimal site ++ codes " ")) }
+{
+    let site = site.number();
+    let head = format!(in alloc; "{number} {site} ")?;
+    text.extend_from_slice(head.as_bytes())
+}
+
+/// Adds the line of a reply to a step, before which so many messages were released.
 pub(crate) fn push_reply_line(
     alloc: Global,
     text: &mut Vec<u8>,
     number: u64,
     site: SiteId,
+    released: usize,
     reply: &Reply,
 ) -> Result<(), AllocError>
-    ensures { OnOk result (text.new.items ≡ text.old.items ++ reply_line number site reply.now) }
+    ensures { OnOk result (text.new.items ≡ text.old.items ++ step_line number site (reply_text released reply.now)) }
 {
-    let site = site.number();
-    let head = format!(in alloc; "{number} {site} ")?;
-    text.extend_from_slice(head.as_bytes())?;
-    push_reply(alloc, text, reply)?;
+    push_head(alloc, text, number, site)?;
+    push_reply(alloc, text, released, reply)?;
+    text.extend_from_slice(b"\n")?;
+    Ok(())
+}
+
+/// Adds the line of a restart.
+pub(crate) fn push_restart_line(
+    alloc: Global,
+    text: &mut Vec<u8>,
+    number: u64,
+    site: SiteId,
+) -> Result<(), AllocError>
+    ensures { OnOk result (text.new.items ≡ text.old.items ++ step_line number site (codes "restarted")) }
+{
+    push_head(alloc, text, number, site)?;
+    text.extend_from_slice(b"restarted")?;
     text.extend_from_slice(b"\n")?;
     Ok(())
 }
@@ -94,17 +181,17 @@ pub(crate) fn push_commit_line(
     text.extend_from_slice(line.as_bytes())
 }
 
+/// Adds what a site has come to.
 pub(crate) fn push_site_line(
     alloc: Global,
     text: &mut Vec<u8>,
-    core: &Core,
+    site: u8,
+    summary: Summary,
 ) -> Result<(), AllocError>
-    ensures { OnOk result (text.new.items ≡ text.old.items ++ site_line core.now.plan core.now.node) }
+    ensures { OnOk result (text.new.items ≡ text.old.items ++ site_text site summary.time summary.log summary.pending) }
 {
-    let site = core.site().number();
-    let time = core.clock();
-    let length = core.log().len();
-    let pending = core.pending();
-    let line = format!(in alloc; "site {site} time {time} log {length} pending {pending}\n")?;
+    let Summary { time, log, pending } = summary;
+    let time = time.half_micros();
+    let line = format!(in alloc; "site {site} time {time} log {log} pending {pending}\n")?;
     text.extend_from_slice(line.as_bytes())
 }

@@ -1,6 +1,0 @@
-use Rattle.std.proofs.Common.{◌≡◌, ◌++◌, drop}
-use Rattle.schedule_replay.proofs.Rests.{ready_rest}
-use Rattle.schedule_replay.proofs.node.Core.ready.Given as goal
-
-abbrev pub invariant-loop-r : goal.invariant-loop-r
-invariant-loop-r l = l.ids.items ++ ready_rest l.self.plan l.self.node (drop l.r-index l.self.node.log) ≡ ready_rest l.self.plan l.self.node l.self.node.log

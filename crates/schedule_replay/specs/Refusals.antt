@@ -1,0 +1,60 @@
+-- Which schedules a replay refuses: a step takes in a message that was not sent before it, or one for another site.
+use Rattle.std.specs.Prelude.{◌≡◌, ℕ, ◌+◌, List, [], ◌∷◌, Option, Some, None, nat_eq, if◌then◌else◌, slice_get, ◌++◌, codes, decimal}
+use Rattle.std.specs.Option.{option_or}
+use Rattle.helios_model.specs.declared.messages.Message.{Message}
+use Rattle.helios_model.specs.Plans.{PlanData}
+use Rattle.helios_model.specs.World.{World, first_world}
+use Rattle.schedule_text.specs.declared.planned.Planned.{Planned}
+use Rattle.schedule_text.specs.declared.planned.Planned.TheVariants.{Get, Status, Request, Pull, Push}
+use Rattle.schedule_text.specs.declared.steps.Step.{Step}
+use Rattle.schedule_text.specs.declared.steps.Step.TheVariants.{Batch, Restart}
+use Rattle.schedule_replay.specs.declared.refusal.ReplayRefusal.{ReplayRefusal}
+use Rattle.schedule_replay.specs.declared.refusal.ReplayRefusal.TheVariants.{NoSuchMessage, NotForSite, NoMemory}
+use Rattle.schedule_replay.specs.Entries.{after_step}
+
+-- why a site can not take the message with a number in: first there is none, then it is for another site
+abbrev pub push_refusal : ℕ → ℕ → Option Message → Option ReplayRefusal
+push_refusal step site None = Some (NoSuchMessage step)
+push_refusal step site (Some m) = if nat_eq m.to site then None else Some (NotForSite step)
+
+abbrev pub input_refusal : List Message → ℕ → ℕ → Planned → Option ReplayRefusal
+input_refusal sent step site (Get key) = None
+input_refusal sent step site (Status id) = None
+input_refusal sent step site (Request at reads puts) = None
+input_refusal sent step site (Pull at to) = None
+input_refusal sent step site (Push at message) = push_refusal step site (slice_get sent message)
+
+-- the first refusal of the inputs of a batch, in their order, over the messages that were sent before it
+abbrev pub inputs_refusal : List Message → ℕ → ℕ → List Planned → Option ReplayRefusal
+inputs_refusal sent step site [] = None
+inputs_refusal sent step site (i ∷ is) = option_or (input_refusal sent step site i) (inputs_refusal sent step site is)
+
+-- why a step with this number is refused before it is run
+abbrev pub step_refusal : World → ℕ → Step → Option ReplayRefusal
+step_refusal w number (Batch site inputs stop) = inputs_refusal w.sent number site inputs
+step_refusal w number (Restart site stop) = None
+
+-- the first refusal of the steps, which are numbered from this number on
+abbrev pub refusal_from : PlanData → World → ℕ → List Step → Option ReplayRefusal
+refusal_from plan w number [] = None
+refusal_from plan w number (s ∷ ss) = option_or (step_refusal w number s) (refusal_from plan (after_step plan w s) (number + 1) ss)
+
+-- the first refusal of a schedule
+abbrev pub refusal_of : PlanData → List Step → Option ReplayRefusal
+refusal_of plan steps = refusal_from plan (first_world plan) 0 steps
+
+-- each refusal but want of memory is the one that was found
+abbrev pub IsRefusedBy : Option ReplayRefusal → ReplayRefusal → Type 0
+IsRefusedBy found (NoSuchMessage step) = found ≡ Some (NoSuchMessage step)
+IsRefusedBy found (NotForSite step) = found ≡ Some (NotForSite step)
+IsRefusedBy found NoMemory = Unit {0}
+
+-- each refusal but want of memory is the first one of the schedule
+abbrev pub IsRefused : PlanData → List Step → ReplayRefusal → Type 0
+IsRefused plan steps refusal = IsRefusedBy (refusal_of plan steps) refusal
+
+-- how a refusal is printed
+abbrev pub refusal_text : ReplayRefusal → List ℕ
+refusal_text (NoSuchMessage step) = codes "no-such-message " ++ decimal step
+refusal_text (NotForSite step) = codes "not-for-site " ++ decimal step
+refusal_text NoMemory = codes "no-memory"
