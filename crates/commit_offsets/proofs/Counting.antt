@@ -28,4 +28,4 @@ pub too_few : (texts : List Value) → length texts ≡ 0 → names_in (items_vi
 too_few texts none = decided texts false (ap is_count none)
 
 pub too_many : (texts : List Value) → most_sites < length texts → names_in (items_view texts) ≡ None
-too_many texts many = decided texts false (second_false (nat_le 1 (length texts)) (nat_le (length texts) 32) (lt-leb (length texts) most_sites many))
+too_many texts many = decided texts false (second_false (nat_le 1 (length texts)) (nat_le (length texts) most_sites) (lt-leb (length texts) most_sites many))
