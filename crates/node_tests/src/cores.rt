@@ -1,5 +1,5 @@
 // The core of a node, through its public calls.
-ghost use Rattle.std.specs.Prelude.{◌≡◌, ◌≢◌, ◌<◌, IfOk};
+ghost use Rattle.std.specs.Prelude.{◌≡◌, ◌≢◌, ◌<◌, IfOk, IsTrue};
 ghost use Rattle.helios_model.specs.Texts.{IsKey};
 ghost use Rattle.helios_model.specs.Plans.{count_of};
 ghost use Rattle.helios_model.specs.Spellable.{AreSpellablePuts, IsSpellableAsk, IsSpellableMessage, IsSpellableReply};
@@ -101,6 +101,24 @@ fn pull(core: Core, reading: u64, to: u8) -> Result<(Core, Message), Fail>
     }
 }
 
+fn is_for(m: &Message, site: u8) -> bool
+    ensures count { IsTrue result → m.now.count ≡ 2 }
+    ensures site { IsTrue result → m.now.to ≡ site }
+{
+    m.count == 2 && m.to.number() == site
+}
+
+fn for_site(m: Message, site: u8) -> Result<Message, Fail>
+    requires { IsSpellableMessage m }
+    ensures { IfOk result (λ m. (m.count ≡ 2) × (m.to ≡ site) × IsSpellableMessage m) }
+{
+    if is_for(&m, site) {
+        Ok(m)
+    } else {
+        Err(Fail::from("a message for this site"))
+    }
+}
+
 /// Pushes a message at its site.
 fn push(core: Core, site: u8, reading: u64, m: Message) -> Result<Outcome, Fail>
     requires spelled { IsSpellableMessage m }
@@ -109,10 +127,7 @@ fn push(core: Core, site: u8, reading: u64, m: Message) -> Result<Outcome, Fail>
     ensures plan { IfOk result (λ out. out.core.plan ≡ core.plan) }
     ensures site { IfOk result (λ out. out.core.site ≡ core.site) }
 {
-    if m.count != 2 || m.to.number() != site {
-        return Err(Fail::from("a message for this site"));
-    }
-    let input = Input::Push(m);
+    let input = Input::Push(for_site(m, site)?);
     let outcome = core.step(Entry { reading, input })?;
     Ok(outcome)
 }
