@@ -294,7 +294,11 @@ fn takes_no_other_step(rt: HostRuntime) -> Result<(), Fail> {
     for step in cases {
         let got = line_of(rt.alloc(), "replay", schedule_text(rt.alloc(), step)?)?;
         assert_eq!(rt; got.0, 5, "{step}");
-        assert_eq!(rt; got.1.as_slice(), b"refused bad-step 0\n".as_slice(), "{step}");
+        assert_eq!(rt;
+            got.1.as_slice(),
+            b"refused bad-step 0\n".as_slice(),
+            "{step}"
+        );
     }
     Ok(())
 }

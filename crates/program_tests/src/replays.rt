@@ -28,12 +28,24 @@ const THREE: &str =
 fn step_text(alloc: Global, step: &str) -> Result<String, AllocError> {
     let words: Vec<&str> = step.split(' ').collect(alloc)?;
     match words.as_slice() {
-        [site, "W", at, key] => format!(in alloc; "{{\"site\":{site},\"inputs\":[{{\"at\":{at},\"reads\":[],\"writes\":[[\"{key}\",\"v\"]]}}]}}"),
-        [site, "R", at, key, version] => format!(in alloc; "{{\"site\":{site},\"inputs\":[{{\"at\":{at},\"reads\":[[\"{key}\",\"{version}\"]],\"writes\":[[\"{key}\",\"v\"]]}}]}}"),
-        [site, "pull", at, to] => format!(in alloc; "{{\"site\":{site},\"inputs\":[{{\"at\":{at},\"pull\":{to}}}]}}"),
-        [site, "push", at, number] => format!(in alloc; "{{\"site\":{site},\"inputs\":[{{\"at\":{at},\"push\":{number}}}]}}"),
-        [site, "get", key] => format!(in alloc; "{{\"site\":{site},\"inputs\":[{{\"get\":\"{key}\"}}]}}"),
-        [site, "status", id] => format!(in alloc; "{{\"site\":{site},\"inputs\":[{{\"status\":\"{id}\"}}]}}"),
+        [site, "W", at, key] => format!(in alloc;
+            "{{\"site\":{site},\"inputs\":[{{\"at\":{at},\"reads\":[],\"writes\":[[\"{key}\",\"v\"]]}}]}}"
+        ),
+        [site, "R", at, key, version] => format!(in alloc;
+            "{{\"site\":{site},\"inputs\":[{{\"at\":{at},\"reads\":[[\"{key}\",\"{version}\"]],\"writes\":[[\"{key}\",\"v\"]]}}]}}"
+        ),
+        [site, "pull", at, to] => format!(in alloc;
+            "{{\"site\":{site},\"inputs\":[{{\"at\":{at},\"pull\":{to}}}]}}"
+        ),
+        [site, "push", at, number] => format!(in alloc;
+            "{{\"site\":{site},\"inputs\":[{{\"at\":{at},\"push\":{number}}}]}}"
+        ),
+        [site, "get", key] => format!(in alloc;
+            "{{\"site\":{site},\"inputs\":[{{\"get\":\"{key}\"}}]}}"
+        ),
+        [site, "status", id] => format!(in alloc;
+            "{{\"site\":{site},\"inputs\":[{{\"status\":\"{id}\"}}]}}"
+        ),
         [site, "restart"] => format!(in alloc; "{{\"restart\":{site}}}"),
         _ => String::from_str(alloc, step),
     }
@@ -59,13 +71,30 @@ fn replays_each_schedule(rt: HostRuntime) -> Result<(), Fail> {
         // A prepared transaction commits once the other site's time has come far enough.
         (
             EVEN,
-            &["0 W 1000 x", "1 pull 999 0", "0 push 1000 0", "0 status 0@1000", "1 pull 1000 0", "0 push 1000 1", "0 status 0@1000"],
+            &[
+                "0 W 1000 x",
+                "1 pull 999 0",
+                "0 push 1000 0",
+                "0 status 0@1000",
+                "1 pull 1000 0",
+                "0 push 1000 1",
+                "0 status 0@1000",
+            ],
             "0 0 prepared 0@1000\n1 1 sent 0 0\n2 0 taken\n3 0 state pending\n4 1 sent 1 0\n5 0 taken\n6 0 state committed\ncommit 0@1000\nsite 0 time 1001 log 2 pending 0\nsite 1 time 1000 log 0 pending 0\n",
         ),
         // Two that conflict, and neither was known to the other: each aborts the other's.
         (
             EVEN,
-            &["0 W 1000 x", "1 W 1000 x", "0 pull 1000 1", "1 pull 1000 0", "1 push 1100 0", "0 push 1100 1", "0 status 0@1000", "1 status 1@1000"],
+            &[
+                "0 W 1000 x",
+                "1 W 1000 x",
+                "0 pull 1000 1",
+                "1 pull 1000 0",
+                "1 push 1100 0",
+                "0 push 1100 1",
+                "0 status 0@1000",
+                "1 status 1@1000",
+            ],
             "0 0 prepared 0@1000\n1 1 prepared 1@1000\n2 0 sent 0 1\n3 1 sent 1 1\n4 1 taken\n5 0 taken\n6 0 state aborted 1@1000\n7 1 state aborted 0@1000\nsite 0 time 1101 log 3 pending 0\nsite 1 time 1101 log 3 pending 0\n",
         ),
         (
@@ -87,35 +116,71 @@ fn replays_each_schedule(rt: HostRuntime) -> Result<(), Fail> {
         // Messages come twice and in another order.
         (
             EVEN,
-            &["0 W 10 x", "0 pull 20 1", "0 pull 30 1", "1 push 40 1", "1 push 40 1", "1 push 40 0"],
+            &[
+                "0 W 10 x",
+                "0 pull 20 1",
+                "0 pull 30 1",
+                "1 push 40 1",
+                "1 push 40 1",
+                "1 push 40 0",
+            ],
             "0 0 prepared 0@10\n1 0 sent 0 1\n2 0 sent 1 1\n3 1 taken\n4 1 taken\n5 1 taken\nsite 0 time 30 log 1 pending 1\nsite 1 time 40 log 1 pending 0\n",
         ),
         (
             THREE,
-            &["0 W 1000000 x", "1 pull 980000 0", "2 pull 990000 0", "0 push 1010000 0", "0 status 0@1000000", "0 push 1010000 1", "0 status 0@1000000"],
+            &[
+                "0 W 1000000 x",
+                "1 pull 980000 0",
+                "2 pull 990000 0",
+                "0 push 1010000 0",
+                "0 status 0@1000000",
+                "0 push 1010000 1",
+                "0 status 0@1000000",
+            ],
             "0 0 prepared 0@1000000\n1 1 sent 0 0\n2 2 sent 1 0\n3 0 taken\n4 0 state pending\n5 0 taken\n6 0 state committed\ncommit 0@1000000\nsite 0 time 1010001 log 2 pending 0\nsite 1 time 980000 log 0 pending 0\nsite 2 time 990000 log 0 pending 0\n",
         ),
         // Several inputs in one batch, answered one after the other; `current` is the version as the batch begins.
         (
             ALONE,
-            &[r#"{"site":0,"inputs":[{"at":1000,"reads":[],"writes":[["x","v1"]]},{"get":"x"}]}"#, "0 get y", "0 R 5 x current"],
+            &[
+                r#"{"site":0,"inputs":[{"at":1000,"reads":[],"writes":[["x","v1"]]},{"get":"x"}]}"#,
+                "0 get y",
+                "0 R 5 x current",
+            ],
             "0 0 committed 0@1000\n0 0 value 0@1000 7631\n1 0 value initial -\n2 0 committed 0@1002\ncommit 0@1000\ncommit 0@1002\nsite 0 time 1003 log 4 pending 0\n",
         ),
         (
             ALONE,
-            &[r#"{"site":0,"inputs":[{"at":1,"reads":[],"writes":[["x","v"]]},{"at":1,"reads":[["x","current"]],"writes":[]}]}"#],
+            &[
+                r#"{"site":0,"inputs":[{"at":1,"reads":[],"writes":[["x","v"]]},{"at":1,"reads":[["x","current"]],"writes":[]}]}"#,
+            ],
             "0 0 committed 0@1\n0 0 overwritten x 0@1\ncommit 0@1\nsite 0 time 2 log 2 pending 0\n",
         ),
         // Commits of two sites in the order of their events, which is not that of their times.
         (
             UNEVEN,
-            &["1 W 5 y", "0 pull 105 1", "1 push 10 0", "1 status 1@5", "0 W 106 z", "1 pull 300 0", "0 push 300 1", "0 get y"],
+            &[
+                "1 W 5 y",
+                "0 pull 105 1",
+                "1 push 10 0",
+                "1 status 1@5",
+                "0 W 106 z",
+                "1 pull 300 0",
+                "0 push 300 1",
+                "0 get y",
+            ],
             "0 1 prepared 1@5\n1 0 sent 0 0\n2 1 taken\n3 1 state committed\n4 0 prepared 0@106\n5 1 sent 1 2\n6 0 taken\n7 0 value 1@5 76\ncommit 1@5\ncommit 0@106\nsite 0 time 301 log 4 pending 0\nsite 1 time 300 log 2 pending 0\n",
         ),
         // The first unfinished transaction that conflicts is named, and the first stale read before it.
         (
             EVEN,
-            &["1 W 10 x", "1 W 10 y", "1 R 10 x initial", "1 R 10 y 1@10", "1 W 5 z"],
+            &[
+                "1 W 10 x",
+                "1 W 10 y",
+                "1 R 10 x initial",
+                "1 R 10 y 1@10",
+                "1 W 5 z",
+            ],
             "0 1 prepared 1@10\n1 1 prepared 1@11\n2 1 conflict 1@10\n3 1 overwritten y initial\n4 1 prepared 1@12\nsite 0 time 0 log 0 pending 0\nsite 1 time 12 log 3 pending 3\n",
         ),
         (
@@ -145,12 +210,18 @@ fn refuses_each_message_that_a_site_cannot_take(rt: HostRuntime) -> Result<(), F
         ),
         // Inputs in their order.
         (
-            &["0 pull 1 1", r#"{"site":0,"inputs":[{"at":1,"push":0},{"at":1,"push":1}]}"#],
+            &[
+                "0 pull 1 1",
+                r#"{"site":0,"inputs":[{"at":1,"push":0},{"at":1,"push":1}]}"#,
+            ],
             "refused not-for-site 1\n",
         ),
         // A stop is not built yet.
         (
-            &[r#"{"restart":0,"stop":{"call":1,"keep":"all"}}"#, "0 push 1 0"],
+            &[
+                r#"{"restart":0,"stop":{"call":1,"keep":"all"}}"#,
+                "0 push 1 0",
+            ],
             "refused unbuilt\n",
         ),
     ];
@@ -172,7 +243,13 @@ fn a_message_holds_64_records_and_covers_what_it_holds(rt: HostRuntime) -> Resul
         )?;
         text.push_str(step.as_str())?;
     }
-    let steps = ["0 pull 1000 1", "1 push 0 0", "1 pull 0 0", "0 push 0 1", "0 pull 1000 1"];
+    let steps = [
+        "0 pull 1000 1",
+        "1 push 0 0",
+        "1 pull 0 0",
+        "0 push 0 1",
+        "0 pull 1000 1",
+    ];
     for step in steps {
         text.push_str(step_text(rt.alloc(), step)?.as_str())?;
         text.push(',')?;
@@ -192,7 +269,10 @@ fn a_schedule_that_was_read_is_replayed(rt: HostRuntime) -> Result<(), Fail> {
     let plan = read_schedule(rt.alloc(), input.as_slice())?.plan;
     let steps = StepList::new(Vec::new(rt.alloc()));
     let report = replay(rt.alloc(), &Schedule { plan, steps })?;
-    assert_eq!(rt; report.text.items(), b"site 0 time 0 log 0 pending 0\n".as_slice());
+    assert_eq!(rt;
+        report.text.items(),
+        b"site 0 time 0 log 0 pending 0\n".as_slice()
+    );
     assert_eq!(rt; (report.commits.items().len(), report.refusals), (0, 0));
     Ok(())
 }
