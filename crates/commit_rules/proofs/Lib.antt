@@ -11,3 +11,4 @@ pub mod TakenSound
 pub mod Spelled
 pub mod ArrivedSound
 pub mod WithinLimits
+pub mod SameSite

@@ -186,24 +186,3 @@ module _ (plan : PlanData) (n : Node) (h : IsWithinLimits plan n) where
   -- the current version of a key has a spelling
   pub current_fine : (key : List ℕ) → IsSpellableVersion (current n.log key)
   current_fine key = version_spelled (count_of plan) n.log key h.few spelled
-
-pub first_within : (plan : PlanData) (site : ℕ) → count_of plan ≤ most_sites → site < count_of plan → IsWithinLimits plan (empty_node plan site)
-first_within plan site few here =
-    let timed : clock plan (empty_node plan site) ≡ 0 =
-    get_or-replicate (count_of plan * count_of plan) (site * count_of plan + site) 0 0 (mul-add-lt site (count_of plan) site (count_of plan) here here) in
-    record {
-      few = few;
-      node = record {
-        here = here;
-        sized = length-replicate (count_of plan * count_of plan) 0;
-        small = All-replicate (λ t. t ≤ last_time) (count_of plan * count_of plan) 0 (omega arith);
-        sound = record {
-          records = All-nil (IsSpellableRecord (count_of plan));
-          rise = λ i j d below low. absurd (omega arith);
-          own = All-nil (λ r. origin r ≡ site → own_time r ≤ clock plan (empty_node plan site));
-          others = All-nil (λ r. origin r ≢ site → own_time r ≤ known plan (empty_node plan site) site (origin r));
-        };
-      };
-      few_open = omega arith;
-      low_clock = omega arith;
-    }

@@ -91,6 +91,8 @@ impl Core {
         requires { MayBeAsked self.plan self.site entry.input }
         ensures outcome { IfOk result (λ out. (plan : PlanData) (n : Node) → IsCoreOf self plan n → IsOutcome plan n entry out) }
         ensures spelled { IfOk result (λ out. IsSpellableReply out.reply) }
+        ensures plan { IfOk result (λ out. out.core.plan ≡ self.plan) }
+        ensures site { IfOk result (λ out. out.core.site ≡ self.site) }
     {
         let mut parts = self.parts;
         let (reply, added, commits) = take_step(&mut parts, entry)?;
