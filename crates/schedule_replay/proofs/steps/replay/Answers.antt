@@ -7,11 +7,12 @@ use Rattle.schedule_replay.proofs.Reaches.{steps_reach}
 use Rattle.schedule_replay.proofs.Stands.{stand_first}
 use Rattle.schedule_replay.proofs.steps.replay.Goals as goal
 
--- what the replay stands for when its loop ends
-ended : (c : goal.After-drop-cores-2) → IsStandingAt c.args.schedule.now.plan c.args.schedule.now.steps c.loop-number.cores.items c.loop-number.output
-ended c =
-    let all : length c.items-steps.result.now ≤ c.loop-number.number = omega arith in
-    at_end c.args.schedule.now.plan c.args.schedule.now.steps c.items-steps.result.now c.loop-number.number c.loop-number.cores.items c.loop-number.output c.items-steps.ensures all c.loop-number.invariant
+-- what the replay stands for when its loop has taken all steps
+ended : (c : goal.After-drop-cores-2) → length c.items-steps.result.now ≤ c.loop-number.number
+    → IsStandingAt c.args.schedule.now.plan c.args.schedule.now.steps c.loop-number.cores.items c.loop-number.output
+ended c all =
+    at_end c.args.schedule.now.plan c.args.schedule.now.steps c.items-steps.result.now c.loop-number.number c.loop-number.cores.items
+    c.loop-number.output c.items-steps.ensures all c.loop-number.invariant
 
 pub loop-number-init : goal.loop-number-init
 loop-number-init c =
@@ -20,12 +21,12 @@ loop-number-init c =
     c.in_ok-cores.ensures c.new.ensures.items c.new-2.ensures.items c.new-3.ensures.items refl
 
 pub returns-clause-reached : goal.returns-clause-reached
-returns-clause-reached c = steps_reach c.args.schedule.now.plan c.args.schedule.now.steps (ended c).may
+returns-clause-reached c = steps_reach c.args.schedule.now.plan c.args.schedule.now.steps (ended c (omega arith)).may
 
 pub returns-clause-safe : goal.returns-clause-safe
-returns-clause-safe c = reached_safe c.each_world_is_safe.ensures c.args.schedule.now.plan c.args.schedule.now.steps c.requires.accepted (ended c).may
+returns-clause-safe c = reached_safe c.each_world_is_safe.ensures c.args.schedule.now.plan c.args.schedule.now.steps c.requires.accepted (ended c (omega arith)).may
 
 pub returns-clause-serial : goal.returns-clause-serial
 returns-clause-serial c =
     subst IsSerial (sym (c.in_ok-report.ensures.commits ∙ ap (λ ss. (reached c.args.schedule.now.plan ss).history) c.items-steps.ensures))
-    (reached_safe c.each_world_is_safe.ensures c.args.schedule.now.plan c.args.schedule.now.steps c.requires.accepted (ended c).may).serial
+    (reached_safe c.each_world_is_safe.ensures c.args.schedule.now.plan c.args.schedule.now.steps c.requires.accepted (ended c (omega arith)).may).serial
