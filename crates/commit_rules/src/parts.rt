@@ -181,7 +181,8 @@ impl Parts {
     /// Commits what can commit.
     pub(crate) fn settle(&mut self) -> Result<(), AllocError>
         requires { IsBounded self.old.plan self.old.node }
-        ensures { IfOk result (λ _. self.new ≡ record { plan = self.old.plan; node = settle self.old.plan self.old.node }) }
+        ensures core { IfOk result (λ _. self.new ≡ record { plan = self.old.plan; node = settle self.old.plan self.old.node }) }
+        ensures bounded { IfOk result (λ _. IsBounded self.new.plan self.new.node) }
     {
         let ids = self.ready()?;
         for id in &ids {

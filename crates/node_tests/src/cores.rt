@@ -1,17 +1,35 @@
 // The core of a node, through its public calls.
-ghost use Rattle.std.specs.Prelude.{◌≡◌, ◌≢◌, ◌<◌, IfOk, IsTrue};
+ghost use Rattle.std.specs.Prelude.{◌≡◌, ◌<◌, IfOk, IsTrue};
 ghost use Rattle.helios_model.specs.Texts.{IsKey};
 ghost use Rattle.helios_model.specs.Plans.{count_of};
 ghost use Rattle.helios_model.specs.Spellable.{AreSpellablePuts, IsSpellableAsk, IsSpellableMessage, IsSpellableReply};
 
 use commit_rules::{Core, Outcome, Summary};
 use helios_model::{
-    Ask, Bytes, Entry, Input, Key, Matrix, Message, Name, Names, Plan, PutItem, Puts, Reads, Reply,
-    SiteId, State, Time, Times, TxnId, Val, Version,
+    Ask, Bytes, Commits, Entry, Input, Key, Matrix, Message, Name, Names, Plan, PutItem, Puts,
+    Reads, Records, Reply, SiteId, State, Time, Times, TxnId, Val, Version,
 };
 use plan_certificate::plan_of;
 use std::alloc::{AllocError, Global};
 use std::test::Fail;
+
+/// The core of one of two sites.
+#[derive(Drop)]
+struct Site {
+    core: Core,
+    number: u8,
+    ghost few: { number < 2 },
+    ghost two: { count_of core.plan ≡ 2 },
+    ghost here: { core.site ≡ number },
+}
+
+/// What a step gives beside the core.
+#[derive(Drop)]
+struct Told {
+    reply: Reply,
+    added: Records,
+    commits: Commits,
+}
 
 /// Two sites, 100 microseconds from each other.
 fn two_sites(alloc: Global) -> Result<Plan, AllocError>
@@ -36,36 +54,33 @@ fn one_site(alloc: Global) -> Result<Plan, AllocError>
     Ok(plan)
 }
 
-fn core_at(alloc: Global, site: u8) -> Result<Core, AllocError>
-    requires { site < 2 }
-    ensures count { IfOk result (λ core. count_of core.plan ≡ 2) }
-    ensures site { IfOk result (λ core. core.site ≡ site) }
+fn site_at(alloc: Global, number: u8) -> Result<Site, AllocError>
+    requires { number < 2 }
 {
-    let core = Core::new(alloc, two_sites(alloc)?, SiteId::of(site))?;
-    Ok(core)
+    let core = Core::new(alloc, two_sites(alloc)?, SiteId::of(number))?;
+    Ok(Site { core, number })
 }
 
-fn key(alloc: Global, text: &str) -> Result<Key, Fail>
+fn key(alloc: Global, text: &[u8]) -> Result<Key, Fail>
     ensures { IfOk result (λ key. IsKey key) }
 {
-    let key = Key::new(Bytes::new(text.as_bytes().to_vec(alloc)?)).ok_or("a key")?;
+    let key = Key::new(Bytes::new(text.to_vec(alloc)?)).ok_or("a key")?;
     let _bytes = key.items();
     Ok(key)
 }
 
 #[tactic(auto, using(crate::proofs::OnePut::one_put_is_spellable))]
-fn one_put(alloc: Global, put: Key) -> Result<Puts, Fail>
-    requires { IsKey put }
+fn one_put(alloc: Global, put: &[u8]) -> Result<Puts, Fail>
     ensures { IfOk result (λ puts. AreSpellablePuts puts) }
 {
+    let key = key(alloc, put)?;
     let value = Val::new(Bytes::new(b"v".to_vec(alloc)?)).ok_or("a value")?;
     let _bytes = value.items();
-    Ok(Puts::new(vec![in alloc; PutItem { key: put, value }]?))
+    Ok(Puts::new(vec![in alloc; PutItem { key, value }]?))
 }
 
 #[tactic(auto, using(crate::proofs::OnePut::one_put_is_asked))]
-fn ask(alloc: Global, put: Key) -> Result<Ask, Fail>
-    requires { IsKey put }
+fn ask(alloc: Global, put: &[u8]) -> Result<Ask, Fail>
     ensures { IfOk result (λ ask. IsSpellableAsk ask) }
 {
     let puts = one_put(alloc, put)?;
@@ -74,31 +89,43 @@ fn ask(alloc: Global, put: Key) -> Result<Ask, Fail>
 }
 
 /// Asks for a write of one key.
-fn write(alloc: Global, core: Core, reading: u64, put: Key) -> Result<Outcome, Fail>
-    requires { IsKey put }
-    ensures plan { IfOk result (λ out. out.core.plan ≡ core.plan) }
-    ensures site { IfOk result (λ out. out.core.site ≡ core.site) }
-{
+fn write(alloc: Global, site: Site, reading: u64, put: &[u8]) -> Result<(Site, Told), Fail> {
     let input = Input::Request(ask(alloc, put)?);
-    let outcome = core.step(Entry { reading, input })?;
-    Ok(outcome)
+    let Site { core, number } = site;
+    let Outcome {
+        core,
+        reply,
+        added,
+        commits,
+    } = core.step(Entry { reading, input })?;
+    Ok((
+        Site { core, number },
+        Told {
+            reply,
+            added,
+            commits,
+        },
+    ))
 }
 
-/// Pulls a message to another site.
-fn pull(core: Core, reading: u64, to: u8) -> Result<(Core, Message), Fail>
-    requires here { to < 2 }
-    requires other { to ≢ core.site }
-    requires count { count_of core.plan ≡ 2 }
-    ensures plan { IfOk result (λ pulled. pulled.0.plan ≡ core.plan) }
-    ensures site { IfOk result (λ pulled. pulled.0.site ≡ core.site) }
-    ensures spelled { IfOk result (λ pulled. IsSpellableMessage pulled.1) }
+fn message(reply: Reply) -> Result<Message, Fail>
+    requires { IsSpellableReply reply }
+    ensures { IfOk result (λ m. IsSpellableMessage m) }
 {
-    let input = Input::Pull(SiteId::of(to));
-    let Outcome { core, reply, .. } = core.step(Entry { reading, input })?;
     match reply {
-        Reply::Sent(m) => Ok((core, m)),
+        Reply::Sent(m) => Ok(m),
         _ => Err(Fail::from("a message")),
     }
+}
+
+/// Pulls a message to the other site.
+fn pull(site: Site, reading: u64) -> Result<(Site, Message), Fail>
+    ensures { IfOk result (λ pulled. IsSpellableMessage pulled.1) }
+{
+    let Site { core, number } = site;
+    let input = Input::Pull(SiteId::of(1 - number));
+    let Outcome { core, reply, .. } = core.step(Entry { reading, input })?;
+    Ok((Site { core, number }, message(reply)?))
 }
 
 fn is_for(m: &Message, site: u8) -> bool
@@ -120,16 +147,25 @@ fn for_site(m: Message, site: u8) -> Result<Message, Fail>
 }
 
 /// Pushes a message at its site.
-fn push(core: Core, site: u8, reading: u64, m: Message) -> Result<Outcome, Fail>
-    requires spelled { IsSpellableMessage m }
-    requires site { core.site ≡ site }
-    requires count { count_of core.plan ≡ 2 }
-    ensures plan { IfOk result (λ out. out.core.plan ≡ core.plan) }
-    ensures site { IfOk result (λ out. out.core.site ≡ core.site) }
+fn push(site: Site, reading: u64, m: Message) -> Result<(Site, Told), Fail>
+    requires { IsSpellableMessage m }
 {
-    let input = Input::Push(for_site(m, site)?);
-    let outcome = core.step(Entry { reading, input })?;
-    Ok(outcome)
+    let Site { core, number } = site;
+    let input = Input::Push(for_site(m, number)?);
+    let Outcome {
+        core,
+        reply,
+        added,
+        commits,
+    } = core.step(Entry { reading, input })?;
+    Ok((
+        Site { core, number },
+        Told {
+            reply,
+            added,
+            commits,
+        },
+    ))
 }
 
 fn id(site: u8, time: u64) -> TxnId
@@ -149,22 +185,33 @@ fn summary(time: u64, log: u64, pending: u64) -> Summary {
     }
 }
 
+fn is_committed(reply: &Reply, id: TxnId) -> bool {
+    match reply {
+        Reply::Committed(other) => *other == id,
+        _ => false,
+    }
+}
+
 #[test]
 fn a_request_commits_at_one_site(rt: HostRuntime) -> Result<(), Fail> {
     let alloc = rt.alloc();
     let core = Core::new(alloc, one_site(alloc)?, SiteId::of(0))?;
-    let out = write(alloc, core, u64::MAX, key(alloc, "x")?)?;
+    let input = Input::Request(ask(alloc, b"x")?);
+    let reading = u64::MAX;
+    let Outcome {
+        core,
+        reply,
+        added,
+        commits,
+    } = core.step(Entry { reading, input })?;
     let last = id(0, 4611686018427125760);
-    assert!(rt; matches!(&out.reply, Reply::Committed(id) if *id == last));
-    assert_eq!(rt; out.added.items().len(), 2);
-    assert_eq!(rt; out.commits.items().len(), 1);
-    let Outcome { core, .. } = out;
-    let (version, value) = core.current(&key(alloc, "x")?);
+    assert!(rt; is_committed(&reply, last));
+    assert_eq!(rt; added.items().len(), 2);
+    assert_eq!(rt; commits.items().len(), 1);
+    let (version, value) = core.current(&key(alloc, b"x")?);
     assert_eq!(rt; version, Version::Of(last));
     assert_eq!(rt; value, b"v".as_slice());
-    let (version, value) = core.current(&key(alloc, "y")?);
-    assert_eq!(rt; version, Version::Initial);
-    assert_eq!(rt; value.len(), 0);
+    assert_eq!(rt; core.current(&key(alloc, b"y")?).0, Version::Initial);
     assert_eq!(rt; core.status(last), State::Committed);
     assert_eq!(rt; core.summary(), summary(4611686018427125761, 2, 0));
     Ok(())
@@ -173,15 +220,14 @@ fn a_request_commits_at_one_site(rt: HostRuntime) -> Result<(), Fail> {
 #[test]
 fn a_push_aborts_what_conflicts(rt: HostRuntime) -> Result<(), Fail> {
     let alloc = rt.alloc();
-    let first = write(alloc, core_at(alloc, 0)?, 1000, key(alloc, "x")?)?;
-    let second = write(alloc, core_at(alloc, 1)?, 1000, key(alloc, "x")?)?;
-    assert!(rt; matches!(&first.reply, Reply::Prepared(id) if id.time == Time::of(1000)));
-    let (first, to_second) = pull(first.core, 1000, 1)?;
-    let (second, to_first) = pull(second.core, 1000, 0)?;
-    let first = push(first, 0, 1100, to_first)?;
-    let second = push(second, 1, 1100, to_second)?;
-    assert_eq!(rt; second.added.items().len(), 2);
-    assert_eq!(rt; second.commits.items().len(), 0);
+    let (first, _) = write(alloc, site_at(alloc, 0)?, 1000, b"x")?;
+    let (second, _) = write(alloc, site_at(alloc, 1)?, 1000, b"x")?;
+    let (first, to_second) = pull(first, 1000)?;
+    let (second, to_first) = pull(second, 1000)?;
+    let (first, _) = push(first, 1100, to_first)?;
+    let (second, told) = push(second, 1100, to_second)?;
+    assert_eq!(rt; told.added.items().len(), 2);
+    assert_eq!(rt; told.commits.items().len(), 0);
     assert_eq!(rt; first.core.status(id(0, 1000)), State::Aborted(id(1, 1000)));
     assert_eq!(rt; second.core.status(id(1, 1000)), State::Aborted(id(0, 1000)));
     assert_eq!(rt; second.core.summary(), summary(1101, 3, 0));
@@ -191,41 +237,35 @@ fn a_push_aborts_what_conflicts(rt: HostRuntime) -> Result<(), Fail> {
 #[test]
 fn a_push_commits_what_waited(rt: HostRuntime) -> Result<(), Fail> {
     let alloc = rt.alloc();
-    let first = write(alloc, core_at(alloc, 0)?, 1000, key(alloc, "x")?)?;
-    let (_second, message) = pull(core_at(alloc, 1)?, 2000, 0)?;
+    let (first, _) = write(alloc, site_at(alloc, 0)?, 1000, b"x")?;
+    let (_, message) = pull(site_at(alloc, 1)?, 2000)?;
     assert_eq!(rt; first.core.status(id(0, 1000)), State::Pending);
-    let first = push(first.core, 0, 1500, message)?;
-    assert!(rt; matches!(&first.reply, Reply::Taken));
-    assert_eq!(rt; first.commits.items().len(), 1);
+    let (first, told) = push(first, 1500, message)?;
+    assert_eq!(rt; told.commits.items().len(), 1);
     assert_eq!(rt; first.core.status(id(0, 1000)), State::Committed);
     assert_eq!(rt; first.core.summary(), summary(1501, 2, 0));
     Ok(())
 }
 
 /// Asks for as many writes of different keys, all at one reading.
-fn many_writes(alloc: Global, core: Core, count: u8) -> Result<Core, Fail>
+fn many_writes(alloc: Global, site: Site, count: u8) -> Result<Site, Fail>
     requires { count < 100 }
-    ensures plan { IfOk result (λ after. after.plan ≡ core.plan) }
-    ensures site { IfOk result (λ after. after.site ≡ core.site) }
 {
-    let mut core = core;
+    let mut site = site;
     for k in 0..count {
-        let bytes = [b'k', b'0' + k / 10, b'0' + k % 10].to_vec(alloc)?;
-        let put = Key::new(Bytes::new(bytes)).ok_or("a key")?;
-        let _bytes = put.items();
-        let Outcome { core: after, .. } = write(alloc, core, 1000, put)?;
-        core = after;
+        let put = [b'k', b'0' + k / 10, b'0' + k % 10];
+        site = write(alloc, site, 1000, &put)?.0;
     }
-    Ok(core)
+    Ok(site)
 }
 
 #[test]
 fn a_message_covers_up_to_what_it_leaves_off(rt: HostRuntime) -> Result<(), Fail> {
     let alloc = rt.alloc();
-    let core = many_writes(alloc, core_at(alloc, 0)?, 70)?;
-    let (core, message) = pull(core, 1000, 1)?;
+    let site = many_writes(alloc, site_at(alloc, 0)?, 70)?;
+    let (site, message) = pull(site, 1000)?;
     assert_eq!(rt; message.records.items().len(), 64);
     assert_eq!(rt; message.cover.items(), [1063, 0].as_slice());
-    assert_eq!(rt; core.summary(), summary(1069, 70, 70));
+    assert_eq!(rt; site.core.summary(), summary(1069, 70, 70));
     Ok(())
 }
