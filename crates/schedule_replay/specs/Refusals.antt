@@ -12,11 +12,12 @@ use Rattle.schedule_replay.specs.declared.refusal.ReplayRefusal.{ReplayRefusal}
 use Rattle.schedule_replay.specs.declared.refusal.ReplayRefusal.TheVariants.{NoSuchMessage, NotForSite, NoMemory}
 use Rattle.schedule_replay.specs.Entries.{after_step}
 
--- why a site can not take the message with a number in: first there is none, then it is for another site
+-- why a site cannot take in what stands at the number of a message: there is none, or it is for another site
 abbrev pub push_refusal : ℕ → ℕ → Option Message → Option ReplayRefusal
 push_refusal step site None = Some (NoSuchMessage step)
 push_refusal step site (Some m) = if nat_eq m.to site then None else Some (NotForSite step)
 
+-- only an input that takes a message in is refused
 abbrev pub input_refusal : List Message → ℕ → ℕ → Planned → Option ReplayRefusal
 input_refusal sent step site (Get key) = None
 input_refusal sent step site (Status id) = None
@@ -43,13 +44,13 @@ refusal_from plan w number (s ∷ ss) = option_or (step_refusal w number s) (ref
 abbrev pub refusal_of : PlanData → List Step → Option ReplayRefusal
 refusal_of plan steps = refusal_from plan (first_world plan) 0 steps
 
--- each refusal but want of memory is the one that was found
+-- a refusal is the one that was found; want of memory may come at any time
 abbrev pub IsRefusedBy : Option ReplayRefusal → ReplayRefusal → Type 0
 IsRefusedBy found (NoSuchMessage step) = found ≡ Some (NoSuchMessage step)
 IsRefusedBy found (NotForSite step) = found ≡ Some (NotForSite step)
 IsRefusedBy found NoMemory = Unit {0}
 
--- each refusal but want of memory is the first one of the schedule
+-- a refusal is the first one of the schedule; want of memory may come at any time
 abbrev pub IsRefused : PlanData → List Step → ReplayRefusal → Type 0
 IsRefused plan steps refusal = IsRefusedBy (refusal_of plan steps) refusal
 

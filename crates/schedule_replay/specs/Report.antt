@@ -31,7 +31,7 @@ state_text StateCommitted = codes "state committed"
 state_text (Aborted cause) = codes "state aborted " ++ id_text cause
 state_text Unknown = codes "state unknown"
 
--- a reply, where so many messages were released before it: that is the number of the message that it sends
+-- a reply before which so many messages were released, which is the number of the message that it sends
 abbrev pub reply_text : ℕ → Reply → List ℕ
 reply_text released (Prepared id) = codes "prepared " ++ id_text id
 reply_text released (Committed id) = codes "committed " ++ id_text id

@@ -26,7 +26,7 @@ CanTake plan site sent (Request at reads puts) = IsInput plan site (Request at r
 CanTake plan site sent (Pull at to) = IsInput plan site (Pull at to)
 CanTake plan site sent (Push at message) = IfSome (slice_get sent message) (IsFor plan site)
 
--- a core of a site that can take these inputs
+-- the core stands for a node of this site, which can take these inputs over the messages that were sent
 pub record CanTakeAll (core : CoreState) (site : ℕ) (sent : List Message) (inputs : List Planned) : Type 0 where
   pub plan : PlanData
   pub node : Node
@@ -34,7 +34,7 @@ pub record CanTakeAll (core : CoreState) (site : ℕ) (sent : List Message) (inp
   pub here : node.site ≡ site
   pub each : All (CanTake plan site sent) inputs
 
--- the same where each input that is not refused can be taken
+-- the same where no input is refused: each is one that the plan allows, and each message is of the plan's sites
 pub record CanTakeUnrefused (core : CoreState) (site : ℕ) (sent : List Message) (inputs : List Planned) : Type 0 where
   pub plan : PlanData
   pub node : Node
@@ -43,7 +43,7 @@ pub record CanTakeUnrefused (core : CoreState) (site : ℕ) (sent : List Message
   pub each : All (IsInput plan site) inputs
   pub formed : All (IsMessageOf (count_of plan)) sent
 
--- a core of a site that may be asked these entries
+-- the core stands for a node of this site, which may be asked these entries
 pub record CanAnswer (core : CoreState) (site : ℕ) (entries : List Entry) : Type 0 where
   pub plan : PlanData
   pub node : Node
@@ -69,11 +69,11 @@ pub record HasTold (number : ℕ) (plan : PlanData) (n : Node) (before : Output)
 abbrev pub StandsAt : List (Option CoreState) → PlanData → ℕ → Node → Type 0
 StandsAt cores plan site n = IsSomeAnd (slice_index_or cores site None) (λ core. IsCoreOf core plan n)
 
--- the core at a site can take these inputs
+-- the core at a site can take these inputs, where none is refused
 abbrev pub CanRun : List (Option CoreState) → ℕ → Output → List Planned → Type 0
 CanRun cores site output inputs = (site < length cores) × IsSomeAnd (slice_index_or cores site None) (λ core. CanTakeUnrefused core site output.sent.items inputs)
 
--- the same of a batch, whose core stands at its site afterwards
+-- a node of a plan took what these inputs ask as the batch begins, and the core for the node after it stands at its site
 pub record HasRun (number : ℕ) (plan : PlanData) (n : Node) (site : ℕ) (inputs : List Planned) (cores : List (Option CoreState)) (before : Output) (cores' : List (Option CoreState)) (after : Output) : Type 0 where
   pub core : CoreState
   pub put : cores' ≡ slice_set cores site (Some core)

@@ -1,4 +1,4 @@
-//! Why a schedule is refused: the first step that takes in a message which it can not take in.
+//! Why a schedule is refused: the first step that takes in a message which it cannot take in.
 ghost use Rattle.std.specs.Prelude.{◌≡◌, Some, option_map, slice_get};
 ghost use Rattle.schedule_replay.specs.Refusals.{input_refusal, inputs_refusal, push_refusal, refusal_text};
 ghost use Rattle.schedule_replay.specs.declared.refusal.ReplayRefusal.TheVariants.{NoMemory};
@@ -77,7 +77,7 @@ fn input_refusal(
     }
 }
 
-/// Why a batch is refused before it is run: its first input that can not be taken, over the messages sent before it.
+/// Why a batch is refused before it is run: its first input that cannot be taken, over the messages sent before it.
 #[tactic(auto, using(crate::proofs::Rests::refusal_drop))]
 pub(crate) fn inputs_refusal(
     sent: &[Message],
