@@ -229,7 +229,10 @@ fn a_push_aborts_what_conflicts(rt: HostRuntime) -> Result<(), Fail> {
     assert_eq!(rt; told.added.items().len(), 2);
     assert_eq!(rt; told.commits.items().len(), 0);
     assert_eq!(rt; first.core.status(id(0, 1000)), State::Aborted(id(1, 1000)));
-    assert_eq!(rt; second.core.status(id(1, 1000)), State::Aborted(id(0, 1000)));
+    assert_eq!(rt;
+        second.core.status(id(1, 1000)),
+        State::Aborted(id(0, 1000))
+    );
     assert_eq!(rt; second.core.summary(), summary(1101, 3, 0));
     Ok(())
 }
