@@ -21,7 +21,7 @@ use Rattle.schedule_replay.specs.Entries.{events_for, reached}
 use Rattle.schedule_replay.specs.Replay.{IsReport}
 use Rattle.schedule_replay.specs.Report.{commit_line, lines_from, site_line, site_text}
 use Rattle.schedule_replay.proofs.Reaches.{runs}
-use Rattle.schedule_replay.specs.Standing.{AreFirst, IsStandingAt, StandsAt}
+use Rattle.schedule_replay.specs.Standing.{AreFirst, HasCores, IsStandingAt, StandAt, StandsAt}
 
 -- one more site's core
 pub cores_push : (plan : PlanData) (count : ℕ) (cores cores' : List (Option CoreState)) (core : CoreState) → cores' ≡ cores ++ Some core ∷ []
@@ -40,13 +40,16 @@ cores_push plan count cores cores' core pushed first stands = record {
         subst (λ o. IsSomeAnd o (λ c. IsCoreOf c plan (empty_node plan site))) (sym (get_or_at cores (Some core) [] None site (first.sites ∙ sym last)))
         (subst (λ k. IsCoreOf core plan (empty_node plan k)) (sym last) stands)
 
--- a core stands at each place
-pub some_at : (cores : List (Option CoreState)) (plan : PlanData) (site : ℕ) (n : Node) → StandsAt cores plan site n → is_some (get_or cores site None) ≡ true
+some_at : (cores : List (Option CoreState)) (plan : PlanData) (site : ℕ) (n : Node) → StandsAt cores plan site n → is_some (get_or cores site None) ≡ true
 some_at cores plan site n h = by_option (get_or cores site None) h
   where
     by_option : (o : Option CoreState) → IsSomeAnd o (λ c. IsCoreOf c plan n) → is_some o ≡ true
     by_option None h = absurd h
     by_option (Some core) h = refl
+
+-- where cores stand for the nodes of a world, there is one at each site
+pub has_cores : (plan : PlanData) (w : World) (cores : List (Option CoreState)) → StandAt plan w cores → HasCores (count_of plan) cores
+has_cores plan w cores h = record { sites = h.sites; each = λ site low. some_at cores plan site (node_of plan w site) (h.nodes site low) }
 
 flat_range_more : (g : ℕ → List ℕ) (n : ℕ) → flat_map g (range_with_len 0 (n + 1)) ≡ flat_map g (range_with_len 0 n) ++ g n
 flat_range_more g n =

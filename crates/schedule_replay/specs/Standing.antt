@@ -1,5 +1,5 @@
 -- What a replay stands for between its steps, and what it does in one of them.
-use Rattle.std.specs.Prelude.{◌≡◌, ℕ, ◌+◌, ◌*◌, ◌<◌, ◌≤◌, ◌++◌, List, length, All, Option, Some, None, IfSome, IsSomeAnd, slice_get, slice_index_or, slice_set}
+use Rattle.std.specs.Prelude.{◌≡◌, ℕ, ◌+◌, ◌*◌, ◌<◌, ◌≤◌, ◌++◌, List, length, All, Option, Some, None, IfSome, IsSome, IsSomeAnd, slice_get, slice_index_or, slice_set}
 use Rattle.helios_model.specs.declared.entries.Entry.{Entry}
 use Rattle.helios_model.specs.declared.messages.Message.{Message}
 use Rattle.helios_model.specs.Limits.{most_inputs}
@@ -84,6 +84,11 @@ pub record HasRun (number : ℕ) (plan : PlanData) (n : Node) (site : ℕ) (inpu
 pub record AreFirst (plan : PlanData) (count : ℕ) (cores : List (Option CoreState)) : Type 0 where
   pub sites : length cores ≡ count
   pub nodes : (site : ℕ) → site < count → StandsAt cores plan site (empty_node plan site)
+
+-- a core stands at each of so many places
+pub record HasCores (count : ℕ) (cores : List (Option CoreState)) : Type 0 where
+  pub sites : length cores ≡ count
+  pub each : (site : ℕ) → site < count → IsSome (slice_index_or cores site None)
 
 -- the cores stand for the nodes of a world
 pub record StandAt (plan : PlanData) (w : World) (cores : List (Option CoreState)) : Type 0 where

@@ -1,18 +1,19 @@
 //! The replay of a schedule, step by step.
-ghost use Rattle.std.specs.Prelude.{◌≡◌, ◌+◌, ◌<◌, ◌≤◌, ◌++◌, None, OnOk, IfOk, IfErr, IsSome, length, slice_index_or, take};
+ghost use Rattle.std.specs.Prelude.{◌≡◌, ◌+◌, ◌<◌, ◌≤◌, ◌++◌, None, OnOk, IfOk, IfErr, IsSome, List, length, slice_index_or, take};
 ghost use Rattle.std.specs.List.{flat_map, range_with_len};
 ghost use Rattle.commit_rules.specs.Outcome.{IsSummaryOf};
 ghost use Rattle.helios_model.specs.Node.{Node};
 ghost use Rattle.helios_model.specs.Plans.{PlanData, count_of};
 ghost use Rattle.helios_model.specs.Serial.{IsSerial};
-ghost use Rattle.helios_model.specs.World.{StepsReach, node_of};
+ghost use Rattle.helios_model.specs.World.{StepsReach, World, node_of};
 ghost use Rattle.protocol_laws.specs.Safe.{IsSafe};
+ghost use Rattle.schedule_text.specs.declared.steps.Step.{Step};
 ghost use Rattle.schedule_replay.specs.Entries.{reached};
 ghost use Rattle.schedule_replay.specs.Refusals.{IsRefused, refusal_of};
 ghost use Rattle.schedule_replay.specs.Replay.{IsReport};
 ghost use Rattle.schedule_replay.specs.Replayable.{IsReplayable};
 ghost use Rattle.schedule_replay.specs.Report.{commit_line, site_line};
-ghost use Rattle.schedule_replay.specs.Standing.{AreFirst, IsStandingAt, StandAt, StandsAt};
+ghost use Rattle.schedule_replay.specs.Standing.{AreFirst, HasCores, IsStandingAt, StandAt, StandsAt};
 
 use crate::batches::{Output, take_batch};
 use crate::lines::{push_commit_line, push_restart_line, push_site_line};
@@ -95,15 +96,15 @@ fn summary_at(cores: &[Option<Core>], site: usize) -> Summary
     }
 }
 
+/// Adds what each site has come to.
 fn push_site_lines(
     alloc: Global,
     text: &mut Vec<u8>,
     plan: &Plan,
-    steps: &[Step],
     cores: &[Option<Core>],
 ) -> Result<(), AllocError>
-    requires { StandAt plan.now (reached plan.now steps.now) cores.now }
-    ensures { OnOk result (text.new.items ≡ text.old.items ++ flat_map (λ site. site_line plan.now (node_of plan.now (reached plan.now steps.now) site)) (range_with_len 0 (count_of plan.now))) }
+    requires { HasCores (count_of plan.now) cores.now }
+    ensures { OnOk result ((w : World) → StandAt plan.now w cores.now → text.new.items ≡ text.old.items ++ flat_map (λ site. site_line plan.now (node_of plan.now w site)) (range_with_len 0 (count_of plan.now))) }
 {
     batch_moves_one_node();
     for site in 0..plan.count() {
@@ -116,12 +117,11 @@ fn push_site_lines(
 fn finish(
     alloc: Global,
     plan: &Plan,
-    steps: &[Step],
     cores: &[Option<Core>],
     output: Output,
 ) -> Result<Report, AllocError>
-    requires { IsStandingAt plan.now steps.now cores.now output }
-    ensures { IfOk result (IsReport plan.now steps.now) }
+    requires { HasCores (count_of plan.now) cores.now }
+    ensures { IfOk result (λ report. (steps : List Step) → IsStandingAt plan.now steps cores.now output → IsReport plan.now steps report) }
 {
     let Output {
         mut text,
@@ -130,7 +130,7 @@ fn finish(
         ..
     } = output;
     push_commit_lines(alloc, &mut text, commits.as_slice())?;
-    push_site_lines(alloc, &mut text, plan, steps, cores)?;
+    push_site_lines(alloc, &mut text, plan, cores)?;
     Ok(Report {
         text: Bytes::new(text),
         commits: Commits::new(commits),
@@ -169,6 +169,6 @@ pub fn replay(alloc: Global, schedule: &Schedule) -> Result<Report, ReplayRefusa
             &mut output,
         )?;
     }
-    let report = finish(alloc, &schedule.plan, steps, cores.as_slice(), output)?;
+    let report = finish(alloc, &schedule.plan, cores.as_slice(), output)?;
     Ok(report)
 }

@@ -1,8 +1,9 @@
-use Rattle.std.proofs.Common.{◌∙◌, ap, refl, ◌≤◌, length, subst, sym, arith}
+use Rattle.std.proofs.Common.{refl, ◌≤◌, length, subst, sym, take, arith}
+use Rattle.helios_model.specs.Plans.{count_of}
 use Rattle.helios_model.specs.Serial.{IsSerial}
 use Rattle.schedule_replay.specs.Entries.{reached}
-use Rattle.schedule_replay.specs.Standing.{IsStandingAt}
-use Rattle.schedule_replay.proofs.Closing.{at_end, reached_safe}
+use Rattle.schedule_replay.specs.Standing.{HasCores, IsStandingAt}
+use Rattle.schedule_replay.proofs.Closing.{at_end, has_cores, reached_safe}
 use Rattle.schedule_replay.proofs.Reaches.{steps_reach}
 use Rattle.schedule_replay.proofs.Stands.{stand_first}
 use Rattle.schedule_replay.proofs.steps.replay.Goals as goal
@@ -20,6 +21,16 @@ loop-number-init c =
     (record { text = c.new.result; sent = c.new-2.result; commits = c.new-3.result; refusals = 0 })
     c.in_ok-cores.ensures c.new.ensures.items c.new-2.ensures.items c.new-3.ensures.items refl
 
+pub finish-requires : goal.finish-requires
+finish-requires c =
+    subst (HasCores (count_of c.args.schedule.now.plan)) (sym c.as_slice.ensures.value)
+    (has_cores c.args.schedule.now.plan (reached c.args.schedule.now.plan (take c.loop-number.number c.items-steps.result.now)) c.loop-number.cores.items c.loop-number.invariant.cores)
+
+pub returns-clause-report : goal.returns-clause-report
+returns-clause-report c =
+    c.in_ok-report.ensures c.args.schedule.now.steps
+    (subst (λ cores. IsStandingAt c.args.schedule.now.plan c.args.schedule.now.steps cores c.loop-number.output) (sym c.as_slice.ensures.value) (ended c (omega arith)))
+
 pub returns-clause-reached : goal.returns-clause-reached
 returns-clause-reached c = steps_reach c.args.schedule.now.plan c.args.schedule.now.steps (ended c (omega arith)).may
 
@@ -28,5 +39,5 @@ returns-clause-safe c = reached_safe c.each_world_is_safe.ensures c.args.schedul
 
 pub returns-clause-serial : goal.returns-clause-serial
 returns-clause-serial c =
-    subst IsSerial (sym (c.in_ok-report.ensures.commits ∙ ap (λ ss. (reached c.args.schedule.now.plan ss).history) c.items-steps.ensures))
+    subst IsSerial (sym (returns-clause-report c).commits)
     (reached_safe c.each_world_is_safe.ensures c.args.schedule.now.plan c.args.schedule.now.steps c.requires.accepted (ended c (omega arith)).may).serial
