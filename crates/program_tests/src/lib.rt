@@ -10,3 +10,5 @@ mod limits;
 mod replays;
 #[cfg(test)]
 mod runs;
+#[cfg(test)]
+mod sizes;

@@ -33,12 +33,27 @@ pub(crate) fn run_over(
 ) -> Result<Outcome, AllocError>
     requires { 0 < piece }
 {
+    run_in_room(alloc, words, input, (10_000, piece), reads, writes)
+}
+
+/// The same with room for so many bytes of output.
+pub(crate) fn run_in_room(
+    alloc: Global,
+    words: &[&str],
+    input: Vec<u8>,
+    output: (usize, usize),
+    reads: &[u64],
+    writes: &[u64],
+) -> Result<Outcome, AllocError>
+    requires { 0 < output.1 }
+{
+    let (room, piece) = output;
     let mut texts = Vec::new(alloc);
     for word in words {
         texts.push(String::from_str(alloc, word)?)?;
     }
     let mut source = MemSource::new(input, piece, reads.to_vec(alloc)?);
-    let mut sink = MemSink::new(alloc, 10000, piece, writes.to_vec(alloc)?)?;
+    let mut sink = MemSink::new(alloc, room, piece, writes.to_vec(alloc)?)?;
     let status = run(alloc, &texts, &mut source, &mut sink);
     Ok(Outcome {
         status: status.0,

@@ -1,0 +1,108 @@
+// The greatest cluster, batch and schedule that the limits allow, through `run`.
+use crate::runs::run_in_room;
+use std::alloc::{AllocError, Global};
+use std::test::Fail;
+
+/// So many items behind each other, with commas between them.
+fn listed(alloc: Global, item: &str, count: usize) -> Result<String, AllocError> {
+    let mut text = String::new(alloc);
+    for number in 0..count {
+        if number > 0 {
+            text.push(',')?;
+        }
+        text.push_str(item)?;
+    }
+    Ok(text)
+}
+
+/// The names of 32 sites, each of 32 bytes.
+fn names(alloc: Global) -> Result<String, AllocError> {
+    let mut text = String::new(alloc);
+    for number in 10..42 {
+        if number > 10 {
+            text.push(',')?;
+        }
+        let name = format!(in alloc; "\"site-of-a-name-of-32-bytes---{number}-\"")?;
+        text.push_str(name.as_str())?;
+    }
+    Ok(text)
+}
+
+/// The numbers of 32 sites.
+fn numbers(alloc: Global) -> Result<String, AllocError> {
+    let mut text = String::new(alloc);
+    for number in 0..32 {
+        if number > 0 {
+            text.push(',')?;
+        }
+        let number = format!(in alloc; "{number}")?;
+        text.push_str(number.as_str())?;
+    }
+    Ok(text)
+}
+
+/// A square of 32 rows of zeros.
+fn square(alloc: Global) -> Result<String, AllocError> {
+    let zeros = listed(alloc, "0", 32)?;
+    let row = format!(in alloc; "[{zeros}]")?;
+    listed(alloc, row.as_str(), 32)
+}
+
+/// The plan of 32 sites that are no time apart.
+fn plan(alloc: Global) -> Result<String, AllocError> {
+    let zeros = listed(alloc, "0", 32)?;
+    let names = names(alloc)?;
+    let square = square(alloc)?;
+    let pair = numbers(alloc)?;
+    format!(in alloc;
+        "{{\"latency\":[{zeros}],\"names\":[{names}],\"offset\":[{square}],\"pair\":[{pair}],\"rtt\":[{square}],\"total\":0,\"version\":1}}"
+    )
+}
+
+#[test]
+fn the_greatest_schedule_is_replayed(rt: HostRuntime) -> Result<(), Fail> {
+    let plan = plan(rt.alloc())?;
+    let pulls = listed(rt.alloc(), "{\"at\":2,\"pull\":0}", 13)?;
+    let first = format!(in rt.alloc();
+        "{{\"site\":31,\"inputs\":[{{\"at\":1,\"reads\":[],\"writes\":[[\"x\",\"v\"]]}},{{\"get\":\"x\"}},{{\"status\":\"31@1\"}},{pulls}]}}"
+    )?;
+    let restarts = listed(rt.alloc(), "{\"restart\":0}", 99_999)?;
+    let input = format!(in rt.alloc();
+        "{{\"plan\":{plan},\"steps\":[{first},{restarts}]}}"
+    )?.into_bytes();
+    let got = run_in_room(
+        rt.alloc(),
+        &["replay"],
+        input,
+        (4_000_000, 65_536),
+        &[],
+        &[],
+    )?;
+    let begin =
+        "0 31 prepared 31@1\n0 31 value initial -\n0 31 state pending\n0 31 sent 0 1\n0 31 sent 1 1\n";
+    let end = "\nsite 30 time 0 log 0 pending 0\nsite 31 time 2 log 1 pending 1\n";
+    assert_eq!(rt; got.status, 0);
+    assert!(rt; got.written.as_slice().starts_with(begin.as_bytes()));
+    assert!(rt; got.written.as_slice().ends_with(end.as_bytes()));
+    Ok(())
+}
+
+#[test]
+fn the_greatest_matrix_is_planned(rt: HostRuntime) -> Result<(), Fail> {
+    let names = names(rt.alloc())?;
+    let square = square(rt.alloc())?;
+    let input = format!(in rt.alloc(); "{{\"names\":[{names}],\"rtt\":[{square}]}}")?.into_bytes();
+    let planned = run_in_room(rt.alloc(), &["plan"], input, (100_000, 4096), &[], &[])?;
+    assert_eq!(rt; planned.status, 0);
+    let judged = run_in_room(
+        rt.alloc(),
+        &["check"],
+        planned.written,
+        (100_000, 4096),
+        &[],
+        &[],
+    )?;
+    assert_eq!(rt; judged.status, 0);
+    assert_eq!(rt; judged.written.as_slice(), b"optimal 0\n".as_slice());
+    Ok(())
+}
