@@ -16,8 +16,6 @@ mod matrix_texts;
 mod plan_texts;
 #[cfg(test)]
 mod planning;
-#[cfg(test)]
-mod schedule_texts;
 
 /// What is printed of a reading: this word where it gave something, else its refusal.
 #[cfg(test)]
