@@ -218,26 +218,6 @@ fn a_request_commits_at_one_site(rt: HostRuntime) -> Result<(), Fail> {
 }
 
 #[test]
-fn a_push_aborts_what_conflicts(rt: HostRuntime) -> Result<(), Fail> {
-    let alloc = rt.alloc();
-    let (first, _) = write(alloc, site_at(alloc, 0)?, 1000, b"x")?;
-    let (second, _) = write(alloc, site_at(alloc, 1)?, 1000, b"x")?;
-    let (first, to_second) = pull(first, 1000)?;
-    let (second, to_first) = pull(second, 1000)?;
-    let (first, _) = push(first, 1100, to_first)?;
-    let (second, told) = push(second, 1100, to_second)?;
-    assert_eq!(rt; told.added.items().len(), 2);
-    assert_eq!(rt; told.commits.items().len(), 0);
-    assert_eq!(rt; first.core.status(id(0, 1000)), State::Aborted(id(1, 1000)));
-    assert_eq!(rt;
-        second.core.status(id(1, 1000)),
-        State::Aborted(id(0, 1000))
-    );
-    assert_eq!(rt; second.core.summary(), summary(1101, 3, 0));
-    Ok(())
-}
-
-#[test]
 fn a_push_commits_what_waited(rt: HostRuntime) -> Result<(), Fail> {
     let alloc = rt.alloc();
     let (first, _) = write(alloc, site_at(alloc, 0)?, 1000, b"x")?;
