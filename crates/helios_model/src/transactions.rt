@@ -243,6 +243,16 @@ impl Prepare {
         &self.writes
     }
 
+    /// Gives up its id, what it read and what it writes.
+    pub fn into_parts(self) -> (TxnId, Reads, Writes)
+        ensures id { result.0 ≡ self.id }
+        ensures reads { result.1 ≡ self.reads }
+        ensures writes { result.2 ≡ self.writes }
+        ensures limits { IsTransaction self.reads self.writes }
+    {
+        (self.id, self.reads, self.writes)
+    }
+
     pub fn is_writing(&self, key: &Key) -> bool
         ensures { result ≡ writes_key self.now key.now }
     {
