@@ -4,3 +4,5 @@ pub mod Sites
 pub mod Waits
 pub mod Lists
 pub mod Touched
+pub mod Found
+pub mod Pooled

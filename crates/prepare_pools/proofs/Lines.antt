@@ -1,14 +1,13 @@
 -- Lines: one more at the end, some taken out, and the one that a number or a name finds.
-use Rattle.std.proofs.Common.{◌≡◌, ◌⊎◌, inl, inr, ℕ, ◌<◌, List, [], ◌∷◌, ◌++◌, Bool, true, false, not, cond, Option, Some, None, find, filter, refl, sym, ap, ◌∙◌, subst, arith}
+use Rattle.std.proofs.Common.{◌≡◌, ◌⊎◌, inl, inr, ℕ, ◌<◌, List, [], ◌∷◌, ◌++◌, Bool, true, false, not, cond, Option, Some, None, find, filter, refl, sym, ap, subst, arith}
 use Rattle.std.specs.List.{AllByRecursion}
 use Rattle.std.specs.Option.{option_map}
-use Rattle.std.specs.declared.cmp.Ordering.{Ordering}
-use Rattle.std.specs.declared.cmp.Ordering.TheVariants.{Less, Equal, Greater}
-use Rattle.std.specs.Ordering.{match_ordering, nat_cmp}
+use Rattle.std.specs.declared.cmp.Ordering.TheVariants.{Greater}
+use Rattle.std.specs.Ordering.{nat_cmp}
 use Rattle.std.specs.Map.{lookup, remove_entry}
 use Rattle.std.specs.BTreeMap.{insert_entry, is_at}
 use Rattle.std.proofs.lemmas.Bool.Decides.{nat_tests}
-use Rattle.prepare_pools.specs.Line.{AllBelow, AllPairs, IsLine, Precedes, arrival_of}
+use Rattle.prepare_pools.specs.Line.{AllBelow, AllPairs, IsLine, Precedes}
 
 pub all_push : {X : Type 0} (P : X → Type 0) (xs : List X) (y : X) → AllByRecursion P xs → P y → AllByRecursion P (xs ++ y ∷ [])
 all_push P [] y all last = (last, tt)
@@ -101,7 +100,7 @@ at_lower : (a k : ℕ) → k < a → is_at (nat_cmp a) k ≡ false
 at_lower a k lower = grind (arith, nat_tests)
 
 -- no other of a line passes a test that one name alone passes
-no_other : {X N : Type 0} (name : X → N) (test : X → Bool) → ((x y : X) → test x ≡ true → test y ≡ true → name x ≡ name y)
+pub no_other : {X N : Type 0} (name : X → N) (test : X → Bool) → ((x y : X) → test x ≡ true → test y ≡ true → name x ≡ name y)
     → (e : ℕ × X) (es : List (ℕ × X)) → test e.1 ≡ true → AllByRecursion (Precedes name e) es → AllByRecursion (λ f. test f.1 ≡ false) es
 no_other name test same e es passes all = all_weaker _ _ (λ f before. missed (test f.1) (λ hit. before.1 (same e.1 f.1 passes hit))) es all
   where

@@ -1,5 +1,5 @@
 -- Times in a line, with the number of each: one enters at the end, one leaves.
-use Rattle.std.proofs.Common.{◌≡◌, ◌⊎◌, inl, inr, ℕ, ◌<◌, List, [], ◌∷◌, ◌++◌, Bool, true, false, not, cond, Option, Some, None, find, filter, nat_eq, refl, sym, ap, ◌∙◌, subst, arith}
+use Rattle.std.proofs.Common.{◌≡◌, inl, inr, ℕ, List, [], ◌∷◌, ◌++◌, true, false, not, cond, Option, Some, None, find, filter, nat_eq, refl, sym, ap, ◌∙◌, subst, arith}
 use Rattle.std.specs.Option.{option_map, option_or}
 use Rattle.std.specs.Ordering.{nat_cmp}
 use Rattle.std.specs.Map.{lookup, remove_entry}
@@ -7,7 +7,7 @@ use Rattle.std.specs.BTreeMap.{insert_entry, is_at}
 use Rattle.std.proofs.lemmas.Bool.{cases_eq, eq-eqb, eqb-true, ne_eqb}
 use Rattle.std.proofs.lemmas.Bool.Decides.{nat_tests}
 use Rattle.std.proofs.lemmas.List.Folds.{find-append}
-use Rattle.prepare_pools.specs.Line.{AllBelow, IsArrived, IsLine, arrival_of}
+use Rattle.prepare_pools.specs.Line.{AllBelow, IsArrived, arrival_of}
 use Rattle.prepare_pools.proofs.Lines.{all_missed, filter_same, find_dropped, find_kept, insert_last, line_push, line_removed, none_mapped, pairs_filter}
 
 or_none : {X : Type 0} (o : Option X) → option_or o None ≡ o

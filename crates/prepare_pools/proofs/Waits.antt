@@ -1,6 +1,6 @@
 -- Transactions in a line: one enters behind the others, one leaves.
-use Rattle.std.proofs.Common.{◌≡◌, ◌⊎◌, inl, inr, ℕ, ◌<◌, ◌+◌, List, [], ◌∷◌, ◌++◌, Bool, true, false, not, cond, ◌||◌, Option, Some, None, find, filter, map, length, nat_eq, refl, sym, ap, ◌∙◌, subst, arith, get_or, set}
-use Rattle.std.specs.List.{AllByRecursion, list_any}
+use Rattle.std.proofs.Common.{◌≡◌, inl, inr, ℕ, ◌<◌, ◌+◌, List, [], ◌∷◌, ◌++◌, Bool, true, false, not, ◌||◌, Option, Some, None, find, filter, map, length, nat_eq, refl, sym, ap, ◌∙◌, subst, arith, get_or, set}
+use Rattle.std.specs.List.{list_any}
 use Rattle.std.specs.Option.{option_map}
 use Rattle.std.specs.Ordering.{nat_cmp}
 use Rattle.std.specs.Map.{lookup, remove_entry, values_of}
@@ -14,7 +14,7 @@ use Rattle.helios_model.specs.declared.ids.TxnId.{TxnId}
 use Rattle.helios_model.specs.Ids.{same_id}
 use Rattle.helios_model.specs.Limits.{most_sites}
 use Rattle.helios_model.specs.Transactions.{Transaction}
-use Rattle.prepare_pools.specs.Line.{AllBelow, IsLine, arrival_of}
+use Rattle.prepare_pools.specs.Line.{AllBelow, arrival_of}
 use Rattle.prepare_pools.specs.Waiting.{IsWaiting, of_site}
 use Rattle.prepare_pools.proofs.Lines.{all_filter, all_missed, all_push, all_weaker, filter_same, insert_last, line_found, line_push, line_removed, none_mapped, pairs_filter}
 use Rattle.prepare_pools.proofs.Sites.{append_none, same_id_is, same_id_of, site_arrival, site_leave_other, site_leave_own, site_push_other, site_push_own}
@@ -148,7 +148,7 @@ pub site_read : (es : List (ℕ × Transaction)) (sites : List (List (ℕ × ℕ
 site_read es sites next at k site view shown state is small read =
     read ∙ (state.by_site at site small ∙ (ap (λ j. of_site j es) is ∙ ap (of_site k) shown))
 
-some_mapped : {X : Type 0} (o : Option (ℕ × X)) (a : ℕ) → option_map (λ e. e.0) o ≡ Some a → (x : X) × (o ≡ Some (a, x))
+pub some_mapped : {X : Type 0} (o : Option (ℕ × X)) (a : ℕ) → option_map (λ e. e.0) o ≡ Some a → (x : X) × (o ≡ Some (a, x))
 some_mapped None a e = absurd (cc)
 some_mapped (Some p) a e = (p.1, let same : p.0 ≡ a = cc in ap (λ k. Some (k, p.1)) same)
 

@@ -1,5 +1,5 @@
 -- Which transactions touch a key: the lists of an index, and what the transactions themselves say.
-use Rattle.std.specs.Prelude.{◌≡◌, ℕ, List, [], ◌∷◌, ◌++◌, Bool, true, false, not, ◌||◌, Option, Some, None, unwrap_or, filter, map, if◌then◌else◌}
+use Rattle.std.specs.Prelude.{◌≡◌, ℕ, List, [], ◌∷◌, ◌++◌, Bool, true, false, not, ◌||◌, Option, Some, None, unwrap_or, filter, if◌then◌else◌}
 use Rattle.std.specs.List.{filter_map}
 use Rattle.std.specs.Ordering.{nat_cmp}
 use Rattle.std.specs.Cmp.Lexicographic.{slice_cmp}
@@ -45,3 +45,7 @@ pub record KeepsRest (id : TxnId) (keys : List (List ℕ)) (old new : List (List
 -- the transaction reads or writes the key
 abbrev pub touches : Transaction → List ℕ → Bool
 touches p key = writes_key p key || contains_text (touched_by p).read key
+
+-- the index says of each key what the transactions say
+pub record IsIndexed (transactions : List Transaction) (index : List (List ℕ × List Touch)) : Type 0 where
+  pub says : (key : List ℕ) → touched index key ≡ touches_in transactions key

@@ -1,5 +1,5 @@
 -- Transactions in a line, and the times of each site's.
-use Rattle.std.specs.Prelude.{◌≡◌, ℕ, ◌<◌, List, [], length, filter, map, slice_index_or}
+use Rattle.std.specs.Prelude.{◌≡◌, ℕ, ◌<◌, List, length, filter, map, slice_index_or}
 use Rattle.helios_model.specs.Limits.{most_sites}
 use Rattle.helios_model.specs.Transactions.{Transaction}
 use Rattle.helios_model.specs.Log.{is_own}

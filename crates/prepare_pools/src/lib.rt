@@ -3,7 +3,9 @@
 
 mod index;
 mod line;
+mod pools;
 mod site;
 mod touch;
 
+pub use pools::Pools;
 pub use touch::Touch;

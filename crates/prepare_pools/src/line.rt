@@ -1,15 +1,15 @@
 // Transactions in the order of their arrival, with the numbers of each site's.
 ghost use Rattle.std.specs.Prelude.{◌≡◌, ℕ, [], ◌∷◌, ◌++◌, false, not, length, filter, find, map, IfOk, OnOk, OnErr};
 ghost use Rattle.std.specs.List.{list_any};
-ghost use Rattle.std.specs.Option.{option_map};
+ghost use Rattle.std.specs.Option.{option_copied};
 ghost use Rattle.std.specs.Map.{values_of};
 ghost use Rattle.helios_model.specs.declared.ids.TxnId.{TxnId};
 ghost use Rattle.helios_model.specs.Ids.{same_id};
 ghost use Rattle.helios_model.specs.Log.{is_own};
-ghost use Rattle.prepare_pools.specs.Line.{arrival_of};
+ghost use Rattle.prepare_pools.specs.Line.{IsLine, arrival_of};
 
 use crate::site::Arrived;
-use helios_model::{Prepare, SiteId, Time, TxnId, TxnIds};
+use helios_model::{Prepare, SiteId, Time, TxnId};
 use std::alloc::{AllocError, Global};
 use std::collections::BTreeMap;
 use std::marker::Model;
@@ -87,6 +87,7 @@ impl Line {
     pub(crate) fn remove(&mut self, id: &TxnId) -> Option<Prepare>
         ensures found { result ≡ find (λ p. same_id p.id id.now) (values_of self.old) }
         ensures removed { self.new ≡ filter (λ e. not (same_id e.1.id id.now)) self.old }
+        ensures line { IsLine (λ p. p.id) self.old }
     {
         let site = &mut self.sites[id.site.number() as usize];
         match site.leave(id.time.half_micros()) {
@@ -100,5 +101,39 @@ impl Line {
         ensures { result ≡ length (filter (is_own site) (values_of self.now)) }
     {
         self.sites[site.number() as usize].times().len() as u64
+    }
+
+    // The transaction with this id.
+    pub(crate) fn find(&self, id: &TxnId) -> Option<&Prepare>
+        ensures { option_copied result ≡ find (λ p. same_id p.id id.now) (values_of self.now) }
+    {
+        match self.arrival(id) {
+            Some(arrival) => self.held.get(&arrival),
+            None => None,
+        }
+    }
+
+    // The first of a site's.
+    pub(crate) fn first_own(&self, site: SiteId) -> Option<&Prepare>
+        ensures { option_copied result ≡ find (is_own site) (values_of self.now) }
+    {
+        match self.sites[site.number() as usize].times().first_key_value() {
+            Some((arrival, _)) => self.held.get(arrival),
+            None => None,
+        }
+    }
+
+    // The ids of a site's.
+    pub(crate) fn own_ids(&self, alloc: Global, site: SiteId) -> Result<Vec<TxnId>, AllocError>
+        ensures { IfOk result (λ ids. ids.items ≡ map (λ p. p.id) (filter (is_own site) (values_of self.now))) }
+    {
+        let mut ids = Vec::new(alloc);
+        for time in self.sites[site.number() as usize].times().values() {
+            ids.push(TxnId {
+                site,
+                time: Time::of(*time),
+            })?;
+        }
+        Ok(ids)
     }
 }

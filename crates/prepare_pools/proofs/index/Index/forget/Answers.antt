@@ -1,6 +1,6 @@
-use Rattle.std.proofs.Common.{◌≡◌, ◌∙◌, ap, sym, Some, unwrap_or, []}
+use Rattle.std.proofs.Common.{◌∙◌, ap, sym, Some, unwrap_or, []}
 use Rattle.std.specs.Option.{option_copied_mut}
-use Rattle.prepare_pools.specs.Touches.{touched, without_id}
+use Rattle.prepare_pools.specs.Touches.{without_id}
 use Rattle.prepare_pools.proofs.Lists.{list_changed}
 use Rattle.prepare_pools.proofs.index.Index.forget.Goals as goal
 

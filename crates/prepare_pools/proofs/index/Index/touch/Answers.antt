@@ -1,7 +1,6 @@
-use Rattle.std.proofs.Common.{◌≡◌, ◌∙◌, ap, sym, Some, unwrap_or, [], ◌∷◌, ◌++◌}
+use Rattle.std.proofs.Common.{◌∙◌, ap, sym, Some, unwrap_or, [], ◌∷◌, ◌++◌}
 use Rattle.std.specs.Option.{option_copied_mut}
 use Rattle.std.proofs.lemmas.Result.{on_err_weaker, on_ok_weaker}
-use Rattle.prepare_pools.specs.Touches.{touched}
 use Rattle.prepare_pools.proofs.Lists.{list_changed, list_kept, list_made}
 use Rattle.prepare_pools.proofs.index.Index.touch.Goals as goal
 

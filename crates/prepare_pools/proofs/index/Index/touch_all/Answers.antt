@@ -1,4 +1,4 @@
-use Rattle.std.proofs.Common.{◌≡◌, ◌∙◌, ap, map}
+use Rattle.std.proofs.Common.{◌∙◌, ap, map}
 use Rattle.prepare_pools.proofs.Touched.{all_touched, out_again}
 use Rattle.prepare_pools.proofs.index.Index.touch_all.Goals as goal
 

@@ -1,7 +1,4 @@
-use Rattle.std.proofs.Common.{◌≡◌, ◌∙◌, ap, sym, subst, map, if◌then◌else◌}
-use Rattle.helios_model.specs.Texts.{contains_text}
-use Rattle.helios_model.specs.Transactions.{touched_by, writes_key}
-use Rattle.prepare_pools.specs.Touches.{touched, without_id}
+use Rattle.std.proofs.Common.{◌∙◌, ap, map}
 use Rattle.prepare_pools.proofs.Touched.{out_of_parts}
 use Rattle.prepare_pools.proofs.index.Index.untouch_all.Goals as goal
 
