@@ -6,3 +6,5 @@ pub mod Lists
 pub mod Touched
 pub mod Found
 pub mod Pooled
+pub mod Firsts
+pub mod Clashes

@@ -1,3 +1,4 @@
 pub mod Line
 pub mod Waiting
 pub mod Touches
+pub mod Conflicts

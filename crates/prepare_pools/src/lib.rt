@@ -1,6 +1,7 @@
 //! The unfinished transactions of a site, in the order in which they arrived.
 #![tactic(auto)]
 
+mod conflicts;
 mod index;
 mod line;
 mod pools;

@@ -1,8 +1,10 @@
 // Transactions in the order of their arrival, with the numbers of each site's.
 ghost use Rattle.std.specs.Prelude.{◌≡◌, ℕ, [], ◌∷◌, ◌++◌, false, not, length, filter, find, map, IfOk, OnOk, OnErr};
 ghost use Rattle.std.specs.List.{list_any};
-ghost use Rattle.std.specs.Option.{option_copied};
-ghost use Rattle.std.specs.Map.{values_of};
+ghost use Rattle.std.specs.Option.{option_copied, option_map};
+ghost use Rattle.std.specs.Ordering.{nat_cmp};
+ghost use Rattle.std.specs.BTreeMap.{is_at};
+ghost use Rattle.std.specs.Map.{lookup, values_of};
 ghost use Rattle.helios_model.specs.declared.ids.TxnId.{TxnId};
 ghost use Rattle.helios_model.specs.Ids.{same_id};
 ghost use Rattle.helios_model.specs.Log.{is_own};
@@ -135,5 +137,22 @@ impl Line {
             })?;
         }
         Ok(ids)
+    }
+
+    // The id of the transaction with this number.
+    pub(crate) fn id_at(&self, arrival: u64) -> Option<TxnId>
+        ensures { result ≡ option_map (λ p. p.id) (lookup (is_at (nat_cmp arrival)) self.now) }
+    {
+        match self.held.get(&arrival) {
+            Some(p) => Some(p.id()),
+            None => None,
+        }
+    }
+
+    // The numbers rise, and no two have the same id.
+    pub(crate) fn is_line(&self)
+        ensures { IsLine (λ p. p.id) self.now }
+    {
+        let _ = &self.held;
     }
 }

@@ -1,11 +1,13 @@
 //! The pools of a site: its unfinished transactions, found by id, by key and by site.
 ghost use Rattle.std.specs.Prelude.{◌≡◌, ℕ, List, [], ◌∷◌, ◌++◌, false, not, length, filter, find, map, IfOk, OnOk, OnErr};
 ghost use Rattle.std.specs.List.{list_any};
-ghost use Rattle.std.specs.Option.{option_copied};
+ghost use Rattle.std.specs.Option.{option_copied, option_map};
 ghost use Rattle.helios_model.specs.Ids.{same_id};
 ghost use Rattle.helios_model.specs.Log.{is_own};
+ghost use Rattle.helios_model.specs.Transactions.{conflict};
 ghost use Rattle.prepare_pools.specs.Touches.{touches_in};
 
+use crate::conflicts::first_conflict;
 use crate::index::Index;
 use crate::line::Line;
 use crate::touch::Touch;
@@ -105,6 +107,15 @@ impl Pools {
         ensures { result.now ≡ touches_in self.now key.now }
     {
         self.index.touching(key)
+    }
+
+    /// The id of the first that conflicts with a transaction: one of the two writes a key that the other
+    /// reads or writes.
+    pub fn first_conflict(&self, p: &Prepare) -> Option<TxnId>
+        ensures { result ≡ option_map (λ q. q.id) (find (conflict p.now) self.now) }
+    {
+        self.line.is_line();
+        first_conflict(&self.line, &self.index, p)
     }
 
     /// The ids of a site's, in the order in which they arrived.
