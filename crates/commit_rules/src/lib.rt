@@ -4,6 +4,7 @@
 mod answers;
 mod arrivals;
 mod fresh;
+mod ledger;
 mod messages;
 mod parts;
 mod requests;
