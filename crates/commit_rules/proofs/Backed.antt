@@ -1,12 +1,12 @@
 -- Logs in which each Commit and Abort has its Prepare: one more record, and what is looked up then.
-use Rattle.std.proofs.Common.{◌≡◌, ◌∙◌, ap, refl, sym, subst, ℕ, ◌<◌, Bool, true, false, not, ◌⊎◌, inl, inr, cond, Option, Some, None, is_some, option_map, List, [], ◌∷◌, ◌++◌, length, get_or, filter, filter_map, find, fold, All, nat_eq, eq-eqb, eqb-true}
-use Rattle.std.specs.List.{cons_option, list_any}
+use Rattle.std.proofs.Common.{◌≡◌, ◌∙◌, ap, refl, sym, ℕ, Bool, true, false, not, ◌⊎◌, inl, inr, cond, Option, Some, None, is_some, option_map, List, [], ◌∷◌, ◌++◌, get_or, filter, filter_map, find, fold, All, nat_eq, eq-eqb, eqb-true}
+use Rattle.std.specs.List.{cons_option}
 use Rattle.std.specs.Option.{option_or}
 use Rattle.std.proofs.lemmas.Grind.{fold-append}
 use Rattle.std.proofs.lemmas.List.{append-nil}
-use Rattle.std.proofs.lemmas.List.Elements.{All-head, All-tail, All-weaker, filter_map-append}
-use Rattle.std.proofs.lemmas.List.Folds.{find-append, list_any_at, list_any_none}
-use Rattle.std.proofs.lemmas.Bool.{and_parts, both_ways, cases_Bool, not-true}
+use Rattle.std.proofs.lemmas.List.Elements.{All-head, All-tail, filter_map-append}
+use Rattle.std.proofs.lemmas.List.Folds.{find-append, list_any_at}
+use Rattle.std.proofs.lemmas.Bool.{and_parts, both_ways, cases_Bool}
 use Rattle.helios_model.specs.declared.ids.TxnId.{TxnId}
 use Rattle.helios_model.specs.declared.ids.Version.TheVariants.{Initial}
 use Rattle.helios_model.specs.declared.records.Record.{Record}

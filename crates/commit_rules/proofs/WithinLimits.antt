@@ -1,9 +1,8 @@
 -- Each step keeps a node within the limits, and its answer has a spelling.
-use Rattle.std.proofs.Common.{◌≡◌, ◌≢◌, refl, subst, ℕ, ◌+◌, ◌*◌, ◌<◌, ◌≤◌, Bool, true, false, ◌&&◌, Option, Some, None, List, [], ◌∷◌, ◌++◌, length, get_or, map, max, nat_le, cond, not, All, arith, le_trans}
+use Rattle.std.proofs.Common.{◌≡◌, refl, subst, ℕ, ◌+◌, ◌*◌, ◌<◌, ◌≤◌, Bool, true, false, ◌&&◌, Option, Some, None, List, [], ◌∷◌, ◌++◌, length, get_or, map, max, nat_le, cond, not, All, arith, le_trans}
 use Rattle.std.specs.Option.{option_map, option_or}
-use Rattle.std.proofs.lemmas.Nat.{mul-add-lt}
-use Rattle.std.proofs.lemmas.List.{get_or-replicate, get_or-set_same, length-replicate}
-use Rattle.std.proofs.lemmas.List.Elements.{All-filter, All-map, All-nil, All-replicate}
+use Rattle.std.proofs.lemmas.List.{get_or-set_same}
+use Rattle.std.proofs.lemmas.List.Elements.{All-filter, All-map}
 use Rattle.std.proofs.lemmas.Bool.{cond_both, leb-false}
 use Rattle.helios_model.specs.declared.ids.TxnId.{TxnId}
 use Rattle.helios_model.specs.declared.transactions.PutItem.{PutItem}
@@ -14,14 +13,14 @@ use Rattle.helios_model.specs.declared.entries.Input.{Input}
 use Rattle.helios_model.specs.declared.entries.Input.TheVariants.{Get, Status, Request, Pull, Push}
 use Rattle.helios_model.specs.declared.entries.Reply.{Reply}
 use Rattle.helios_model.specs.declared.entries.Reply.TheVariants.{Prepared, Committed, Overwritten, Conflict, PoolFull}
-use Rattle.helios_model.specs.Limits.{last_time, most_open, most_sites, spent_time}
+use Rattle.helios_model.specs.Limits.{most_open, spent_time}
 use Rattle.helios_model.specs.Ids.{same_version}
 use Rattle.helios_model.specs.Texts.{IsKey, IsValue}
 use Rattle.helios_model.specs.Transactions.{Transaction, Asking, keys_conflict, touched_by, touched_by_ask}
-use Rattle.helios_model.specs.Log.{current, finished, origin, own_time, prepares, unfinished}
-use Rattle.helios_model.specs.Spellable.{AreSpellablePuts, AreSpellableWrites, IsMessageOf, IsSpellableAsk, IsSpellableId, IsSpellablePrepare, IsSpellableRecord, IsSpellableReply, IsSpellableVersion}
+use Rattle.helios_model.specs.Log.{current, finished, prepares, unfinished}
+use Rattle.helios_model.specs.Spellable.{AreSpellablePuts, AreSpellableWrites, IsMessageOf, IsSpellableAsk, IsSpellableId, IsSpellablePrepare, IsSpellableReply, IsSpellableVersion}
 use Rattle.helios_model.specs.Plans.{PlanData, count_of}
-use Rattle.helios_model.specs.Node.{Node, Stepped, clamp, clock, empty_node, is_spent, known, next_time, own_open}
+use Rattle.helios_model.specs.Node.{Node, Stepped, clamp, clock, is_spent, known, next_time, own_open}
 use Rattle.helios_model.specs.Settle.{ready, settle}
 use Rattle.helios_model.specs.Request.{accept, asked, clash, clash_refusal, entered, next_id, refusal, room_refusal, stale_read, stale_refusal, unless_refused, write_at}
 use Rattle.helios_model.specs.Messages.{advanced, arrived, pull, push}

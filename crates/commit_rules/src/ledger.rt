@@ -1,10 +1,12 @@
 //! A log with what is looked up in it: the unfinished transactions, and the current version and value of each key.
-ghost use Rattle.std.specs.Prelude.{◌≡◌, ◌<◌, true, find, filter, length, map, is_some, IfOk, if◌then◌else◌};
+ghost use Rattle.std.specs.Prelude.{◌≡◌, ◌<◌, true, false, AllPairs, find, filter, length, map, is_some, IfOk, if◌then◌else◌};
 ghost use Rattle.std.specs.Option.{option_map};
-ghost use Rattle.helios_model.specs.Exchange.{is_unfinished};
+ghost use Rattle.helios_model.specs.Exchange.{clashing, is_unfinished};
+ghost use Rattle.helios_model.specs.Ids.{same_id};
 ghost use Rattle.helios_model.specs.Log.{current, current_value, is_own, prepare_of, unfinished};
 ghost use Rattle.helios_model.specs.Transactions.{conflict};
 ghost use Rattle.log_exchange.specs.Kept.{appended, first_log};
+ghost use Rattle.commit_rules.specs.Ledger.{IsAfter};
 
 use helios_model::{Key, Prepare, Record, SiteId, Time, TxnId, TxnIds, Version};
 use log_exchange::ExchangeLog;
@@ -82,15 +84,23 @@ impl Ledger {
 
     /// The names of a site's unfinished transactions, in log order.
     pub(crate) fn own_ids(&self, site: SiteId) -> Result<TxnIds, AllocError>
-        ensures { IfOk result (λ ids. ids ≡ map (λ p. p.id) (filter (is_own site) (unfinished self.now.records))) }
+        ensures items { IfOk result (λ ids. ids ≡ map (λ p. p.id) (filter (is_own site) (unfinished self.now.records))) }
+        ensures differ { AllPairs (λ p q. same_id p.id q.id ≡ false) (unfinished self.now.records) }
     {
         self.pools.own_ids(site)
     }
 
-    /// Appends a Prepare with a new id.
+    /// The names of a site's unfinished transactions that conflict with an arriving one, in log order.
+    pub(crate) fn own_conflicts(&self, site: SiteId, p: &Prepare) -> Result<TxnIds, AllocError>
+        ensures { IfOk result (λ ids. ids ≡ clashing site self.now.records p.now) }
+    {
+        self.pools.own_conflicts(site, p)
+    }
+
+    /// Appends a Prepare, which was made after all that the log has of its origin.
     pub(crate) fn append_prepare(mut self, p: Prepare) -> Result<Ledger, AllocError>
         requires origin { p.id.site < self.count }
-        requires fresh { prepare_of self.records p.id ≡ None }
+        requires after { IsAfter self.records (Record.Prepare p) }
         ensures { IfOk result (λ l. l ≡ appended self (Record.Prepare p)) }
     {
         self.pools.add(p.copy()?)?;

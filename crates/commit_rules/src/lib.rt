@@ -10,6 +10,5 @@ mod parts;
 mod requests;
 mod rules;
 mod scan;
-mod values;
 
 pub use rules::{Core, Outcome, Summary};

@@ -8,3 +8,5 @@ pub mod Found
 pub mod Pooled
 pub mod Firsts
 pub mod Clashes
+pub mod Orders
+pub mod Gathered

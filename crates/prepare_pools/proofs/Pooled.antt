@@ -75,7 +75,7 @@ touch_has_id key p id true false true same w is ts = rw (w, is) (rw same refl)
 touch_has_id key p id false false true same w is ts = rw (w, is) (rw same refl)
 touch_has_id key p id b false false same w is ts = rw (w, is) (sym (either_none [] b))
 
-touches_cons : (key : List ℕ) (p : Transaction) (ps : List Transaction) → touches_in (p ∷ ps) key ≡ option_to_list (touch_of key p) ++ touches_in ps key
+pub touches_cons : (key : List ℕ) (p : Transaction) (ps : List Transaction) → touches_in (p ∷ ps) key ≡ option_to_list (touch_of key p) ++ touches_in ps key
 touches_cons key p ps = cons_is (touch_of key p) (touches_in ps key)
   where
     cons_is : (o : Option Touch) (ts : List Touch) → cons_option o ts ≡ option_to_list o ++ ts

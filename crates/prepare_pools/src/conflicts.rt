@@ -24,7 +24,7 @@ fn earlier_of(a: Option<u64>, b: Option<u64>) -> Option<u64>
     }
 }
 
-fn counts(touch: &Touch, any: bool) -> bool
+pub(crate) fn counts(touch: &Touch, any: bool) -> bool
     ensures { result ≡ (any || touch.now.write) }
 {
     any || touch.write

@@ -2,6 +2,7 @@
 #![tactic(auto)]
 
 mod conflicts;
+mod gathering;
 mod index;
 mod line;
 mod pools;

@@ -8,6 +8,7 @@ ghost use Rattle.helios_model.specs.Transactions.{conflict};
 ghost use Rattle.prepare_pools.specs.Touches.{touches_in};
 
 use crate::conflicts::first_conflict;
+use crate::gathering::own_conflicts;
 use crate::index::Index;
 use crate::line::Line;
 use crate::touch::Touch;
@@ -116,6 +117,15 @@ impl Pools {
     {
         self.line.is_line();
         first_conflict(&self.line, &self.index, p)
+    }
+
+    /// The ids of a site's that conflict with a transaction, in the order in which they arrived.
+    pub fn own_conflicts(&self, site: SiteId, p: &Prepare) -> Result<TxnIds, AllocError>
+        ensures { IfOk result (λ ids. ids ≡ map (λ q. q.id) (filter (conflict p.now) (filter (is_own site) self.now))) }
+    {
+        self.line.is_line();
+        let ids = own_conflicts(self.alloc, &self.line, &self.index, site, p)?;
+        Ok(TxnIds::new(ids))
     }
 
     /// The ids of a site's, in the order in which they arrived.
