@@ -12,3 +12,5 @@ pub mod Spelled
 pub mod ArrivedSound
 pub mod WithinLimits
 pub mod SameSite
+pub mod Backed
+pub mod Kept

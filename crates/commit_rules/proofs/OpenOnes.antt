@@ -15,7 +15,7 @@ use Rattle.helios_model.specs.Log.{ends, finished, is_own, prepare_in, prepares,
 use Rattle.helios_model.specs.Exchange.{Intake, abort_one, clashing}
 use Rattle.commit_rules.proofs.Lists.{fewer, fewer_in, filter_twice, not_or, or_false}
 
-finished_more : (log : List Record) (r : Record) (id : TxnId) → finished (log ++ r ∷ []) id ≡ (finished log id || ends id r)
+pub finished_more : (log : List Record) (r : Record) (id : TxnId) → finished (log ++ r ∷ []) id ≡ (finished log id || ends id r)
 finished_more log r id = list_any-append (ends id) log (r ∷ []) ∙ ap (λ b. finished log id || b) (or_false (ends id r))
 
 prepares_end : (log : List Record) (r : Record) → prepare_in r ≡ None → prepares (log ++ r ∷ []) ≡ prepares log
@@ -24,7 +24,7 @@ prepares_end log r e =
     filter_map-append prepare_in log (r ∷ []) ∙ ap (λ ps. prepares log ++ ps) nothing ∙ append-nil (prepares log)
 
 -- a record that is no Prepare ends what it ends
-unfinished_end : (log : List Record) (r : Record) → prepare_in r ≡ None → unfinished (log ++ r ∷ []) ≡ filter (λ p. not (ends p.id r)) (unfinished log)
+pub unfinished_end : (log : List Record) (r : Record) → prepare_in r ≡ None → unfinished (log ++ r ∷ []) ≡ filter (λ p. not (ends p.id r)) (unfinished log)
 unfinished_end log r e =
     ap (filter (λ p. not (finished (log ++ r ∷ []) p.id))) (prepares_end log r e)
     ∙ filter_agree (λ p. not (finished (log ++ r ∷ []) p.id)) (λ p. not (finished log p.id) && not (ends p.id r))
@@ -32,7 +32,7 @@ unfinished_end log r e =
     ∙ sym (filter_twice (λ p. not (ends p.id r)) (λ p. not (finished log p.id)) (prepares log))
 
 -- a Prepare ends nothing
-unfinished_prepare : (log : List Record) (p : Transaction) → unfinished (log ++ Prepare p ∷ []) ≡ unfinished log ++ filter (λ q. not (finished log q.id)) (p ∷ [])
+pub unfinished_prepare : (log : List Record) (p : Transaction) → unfinished (log ++ Prepare p ∷ []) ≡ unfinished log ++ filter (λ q. not (finished log q.id)) (p ∷ [])
 unfinished_prepare log p =
     ap (filter (λ q. not (finished (log ++ Prepare p ∷ []) q.id))) (filter_map-append prepare_in log (Prepare p ∷ []))
     ∙ filter_agree (λ q. not (finished (log ++ Prepare p ∷ []) q.id)) (λ q. not (finished log q.id))

@@ -15,7 +15,7 @@ own_site : (site : ℕ) (ps : List Transaction) → All (λ p. p.id.site ≡ sit
 own_site site ps =
     All-weaker (λ p. is_own site p ≡ true) (λ p. p.id.site ≡ site) (λ p own. eqb-true p.id.site site own) (filter (is_own site) ps) (filter_passes (is_own site) ps)
 
-clashing_own : (site : ℕ) (log : List Record) (p : Transaction) → All (λ id. id.site ≡ site) (clashing site log p)
+pub clashing_own : (site : ℕ) (log : List Record) (p : Transaction) → All (λ id. id.site ≡ site) (clashing site log p)
 clashing_own site log p =
     All-map (λ id. id.site ≡ site) (λ q. q.id) (filter (conflict p) (filter (is_own site) (unfinished log)))
     (All-filter (conflict p) (λ q. q.id.site ≡ site) (filter (is_own site) (unfinished log)) (own_site site (unfinished log)))

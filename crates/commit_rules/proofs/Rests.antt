@@ -1,20 +1,18 @@
-use Rattle.std.proofs.Common.{◌≡◌, ◌∙◌, ap, sym, append_assoc, ◌++◌, Bool, true, false, ℕ, ◌+◌, ◌<◌, List, ◌∷◌, length, get_or, drop, refl, Option, Some, None, filter, find, fold, map}
-use Rattle.std.specs.List.{cons_option, filter_map, list_any}
+use Rattle.std.proofs.Common.{◌≡◌, ◌∙◌, ap, sym, append_assoc, ◌++◌, Bool, true, false, ℕ, ◌+◌, ◌<◌, ◌≤◌, List, ◌∷◌, length, get_or, drop, refl, Option, Some, None, filter, find}
+use Rattle.std.specs.List.{cons_option, filter_map}
 use Rattle.std.specs.Option.{option_to_list}
 use Rattle.commit_rules.specs.Scan.{own_commit_in, own_event}
-use Rattle.std.proofs.lemmas.List.{drop_more}
+use Rattle.std.proofs.lemmas.List.{append-nil, drop_all, drop_more}
 use Rattle.helios_model.specs.declared.ids.TxnId.{TxnId}
-use Rattle.helios_model.specs.declared.ids.Version.{Version}
 use Rattle.helios_model.specs.declared.records.Record.{Record}
 use Rattle.helios_model.specs.declared.records.CommitEvent.{CommitEvent}
 use Rattle.helios_model.specs.World.{is_own_commit}
 use Rattle.helios_model.specs.Ids.{same_id}
-use Rattle.helios_model.specs.Transactions.{Transaction, Asking, keys_conflict, conflict, touched_by, touched_by_ask}
-use Rattle.helios_model.specs.Log.{prepare_in, commit_in, version_after, value_after, finished, is_own}
+use Rattle.helios_model.specs.Transactions.{Transaction}
+use Rattle.helios_model.specs.Log.{prepare_in, commit_in}
 use Rattle.helios_model.specs.Plans.{PlanData}
 use Rattle.helios_model.specs.Node.{Node}
 use Rattle.helios_model.specs.Settle.{is_reached}
-use Rattle.std.specs.Prelude.{not}
 
 -- what the rest of a log gives each look-up in it
 
@@ -25,57 +23,17 @@ pub prepare_of_drop : (id : TxnId) (log : List Record) (i : ℕ) (d : Record) �
     → named_rest id (drop i log) ≡ named_rest id (get_or log i d ∷ drop (i + 1) log)
 prepare_of_drop id log i d h = rw (drop_more log i d h) refl
 
-abbrev pub current_rest : List Record → List ℕ → Version → List Record → Version
-current_rest log key version rest = fold (version_after key) version (filter_map (commit_in log) rest)
+abbrev pub reached_rest : PlanData → Node → List TxnId → List TxnId
+reached_rest plan n rest = filter (λ id. is_reached plan n id.time) rest
 
-pub current_drop : (log : List Record) (key : List ℕ) (version : Version) (i : ℕ) (d : Record) → i < length log
-    → current_rest log key version (drop i log) ≡ current_rest log key version (get_or log i d ∷ drop (i + 1) log)
-current_drop log key version i d h = rw (drop_more log i d h) refl
+pub reached_drop : (plan : PlanData) (n : Node) (ids : List TxnId) (i : ℕ) (d : TxnId) → i < length ids
+    → reached_rest plan n (drop i ids) ≡ reached_rest plan n (get_or ids i d ∷ drop (i + 1) ids)
+reached_drop plan n ids i d h = rw (drop_more ids i d h) refl
 
-abbrev pub value_rest : List Record → List ℕ → List ℕ → List Record → List ℕ
-value_rest log key value rest = fold (value_after key) value (filter_map (commit_in log) rest)
-
-pub value_drop : (log : List Record) (key value : List ℕ) (i : ℕ) (d : Record) → i < length log
-    → value_rest log key value (drop i log) ≡ value_rest log key value (get_or log i d ∷ drop (i + 1) log)
-value_drop log key value i d h = rw (drop_more log i d h) refl
-
-abbrev pub open_rest : List Record → List Record → List Transaction
-open_rest log rest = filter (λ p. not (finished log p.id)) (filter_map prepare_in rest)
-
-abbrev pub clash_rest : List Record → Asking → List Record → Option Transaction
-clash_rest log ask rest = find (λ q. keys_conflict (touched_by_ask ask) (touched_by q)) (open_rest log rest)
-
-pub clash_drop : (log : List Record) (ask : Asking) (i : ℕ) (d : Record) → i < length log
-    → clash_rest log ask (drop i log) ≡ clash_rest log ask (get_or log i d ∷ drop (i + 1) log)
-clash_drop log ask i d h = rw (drop_more log i d h) refl
-
-abbrev pub own_open_rest : List Record → ℕ → List Record → List Transaction
-own_open_rest log site rest = filter (is_own site) (open_rest log rest)
-
-pub own_open_drop : (log : List Record) (site : ℕ) (i : ℕ) (d : Record) → i < length log
-    → own_open_rest log site (drop i log) ≡ own_open_rest log site (get_or log i d ∷ drop (i + 1) log)
-own_open_drop log site i d h = rw (drop_more log i d h) refl
-
-abbrev pub unfinished_rest : List Record → TxnId → List Record → Bool
-unfinished_rest log id rest = list_any (λ p. same_id p.id id) (open_rest log rest)
-
-pub unfinished_drop : (log : List Record) (id : TxnId) (i : ℕ) (d : Record) → i < length log
-    → unfinished_rest log id (drop i log) ≡ unfinished_rest log id (get_or log i d ∷ drop (i + 1) log)
-unfinished_drop log id i d h = rw (drop_more log i d h) refl
-
-abbrev pub clashing_rest : ℕ → List Record → Transaction → List Record → List TxnId
-clashing_rest site log p rest = map (λ q. q.id) (filter (conflict p) (own_open_rest log site rest))
-
-pub clashing_drop : (site : ℕ) (log : List Record) (p : Transaction) (i : ℕ) (d : Record) → i < length log
-    → clashing_rest site log p (drop i log) ≡ clashing_rest site log p (get_or log i d ∷ drop (i + 1) log)
-clashing_drop site log p i d h = rw (drop_more log i d h) refl
-
-abbrev pub ready_rest : PlanData → Node → List Record → List TxnId
-ready_rest plan n rest = map (λ p. p.id) (filter (λ p. is_reached plan n p.id.time) (own_open_rest n.log n.site rest))
-
-pub ready_drop : (plan : PlanData) (n : Node) (log : List Record) (i : ℕ) (d : Record) → i < length log
-    → ready_rest plan n (drop i log) ≡ ready_rest plan n (get_or log i d ∷ drop (i + 1) log)
-ready_drop plan n log i d h = rw (drop_more log i d h) refl
+pub reached_all : (plan : PlanData) (n : Node) (found ids : List TxnId) (i : ℕ) → length ids ≤ i → found ++ reached_rest plan n (drop i ids) ≡ reached_rest plan n ids
+    → found ≡ reached_rest plan n ids
+reached_all plan n found ids i past so_far =
+    sym (append-nil found) ∙ ap (λ rest. found ++ reached_rest plan n rest) (sym (drop_all i ids past)) ∙ so_far
 
 abbrev pub events_rest : ℕ → List Record → List Record → List CommitEvent
 events_rest site log rest = filter (is_own_commit site) (filter_map (commit_in log) rest)

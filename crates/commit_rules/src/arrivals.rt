@@ -1,122 +1,117 @@
-//! How a log takes a message's records in, with its site's clock.
-ghost use Rattle.std.specs.Prelude.{◌≡◌, ◌+◌, ◌^◌, ◌<◌, ◌≤◌, All, IfOk, fold, length};
-ghost use Rattle.helios_model.specs.Log.{id_of, origin};
+//! How a ledger takes a message's records in, with its site's clock.
+ghost use Rattle.std.specs.Prelude.{◌≡◌, ◌+◌, ◌^◌, ◌<◌, ◌≤◌, All, IfOk, fold, is_some, length, true};
+ghost use Rattle.helios_model.specs.Log.{id_of, origin, prepare_of};
+ghost use Rattle.helios_model.specs.Spellable.{OwnTimesRiseByOrigin};
 ghost use Rattle.helios_model.specs.Exchange.{abort_one, is_passed, take_all, take_end, take_new, take_one, take_prepare, with_taken};
 ghost use Rattle.time_table.specs.Table.{time_at};
 ghost use Rattle.log_exchange.specs.Kept.{AreOf};
-ghost use Rattle.commit_rules.specs.Core.{GoesOn, IsSameSite, intake_in};
+ghost use Rattle.commit_rules.specs.Core.{GoesOn, intake_in};
+ghost use Rattle.commit_rules.specs.Ledger.{IsAfter, MayTake};
 
-use crate::scan::{clashing, is_unfinished};
+use crate::ledger::Ledger;
 use helios_model::{Prepare, Record, Records, SiteId, Time, TxnId};
-use log_exchange::ExchangeLog;
-use std::alloc::{AllocError, Global};
+use std::alloc::AllocError;
 use time_table::TimeTable;
 
-fn take(log: &mut ExchangeLog, clock: u64, r: Record) -> Result<(), AllocError>
-    requires origin { origin r < log.old.count }
-    requires bounded { clock ≤ 2 ^ 62 + length log.old.records }
-    ensures taken { IfOk result (λ _. intake_in log.new clock ≡ with_taken (intake_in log.old clock) r) }
-    ensures goes { IfOk result (λ _. GoesOn log.old clock log.new clock) }
-    ensures same { IsSameSite log.old log.new }
-{
-    log.append(r)?;
-    Ok(())
+/// A ledger that takes records in, and its site's clock, in half microseconds.
+#[derive(Drop)]
+pub(crate) struct Taking {
+    pub(crate) ledger: Ledger,
+    pub(crate) clock: u64,
 }
 
 /// Aborts an own transaction at the next time, since it conflicts with the cause.
-fn abort(
-    log: &mut ExchangeLog,
-    clock: &mut u64,
-    cause: &TxnId,
-    id: &TxnId,
-) -> Result<(), AllocError>
-    requires here { id.now.site < log.old.count }
-    requires bounded { clock.old ≤ 2 ^ 62 + length log.old.records }
-    ensures aborted { IfOk result (λ _. intake_in log.new clock.new ≡ abort_one cause.now (intake_in log.old clock.old) id.now) }
-    ensures goes { IfOk result (λ _. GoesOn log.old clock.old log.new clock.new) }
-    ensures same { IsSameSite log.old log.new }
+fn abort(a: Taking, cause: &TxnId, id: &TxnId) -> Result<Taking, AllocError>
+    requires here { id.now.site < a.ledger.count }
+    requires known { is_some (prepare_of a.ledger.records id.now) ≡ true }
+    requires bounded { a.clock ≤ 2 ^ 62 + length a.ledger.records }
+    ensures aborted { IfOk result (λ b. intake_in b.ledger b.clock ≡ abort_one cause.now (intake_in a.ledger a.clock) id.now) }
+    ensures goes { IfOk result (λ b. GoesOn a.ledger a.clock b.ledger b.clock) }
 {
-    prove!(log.records().len() < 1 << 60);
-    let time = *clock + 1;
-    log.append(Record::Abort {
-        id: *id,
-        time: Time::of(time),
-        cause: *cause,
-    })?;
-    *clock = time;
-    Ok(())
+    let Taking { ledger, clock } = a;
+    prove!(ledger.log().records().len() < 1 << 60);
+    let time = clock + 1;
+    let ledger = ledger.append_abort(id, Time::of(time), cause)?;
+    Ok(Taking {
+        ledger,
+        clock: time,
+    })
 }
 
-fn abort_all(
-    log: &mut ExchangeLog,
-    clock: &mut u64,
-    cause: &TxnId,
-    ids: &[TxnId],
-) -> Result<(), AllocError>
-    requires here { All (λ id. id.site < log.old.count) ids.now }
-    requires bounded { clock.old ≤ 2 ^ 62 + length log.old.records }
-    ensures aborted { IfOk result (λ _. intake_in log.new clock.new ≡ fold (abort_one cause.now) (intake_in log.old clock.old) ids.now) }
-    ensures goes { IfOk result (λ _. GoesOn log.old clock.old log.new clock.new) }
-    ensures same { IsSameSite log.old log.new }
+fn abort_all(a: Taking, cause: &TxnId, ids: &[TxnId]) -> Result<Taking, AllocError>
+    requires here { All (λ id. id.site < a.ledger.count) ids.now }
+    requires known { All (λ id. is_some (prepare_of a.ledger.records id) ≡ true) ids.now }
+    requires bounded { a.clock ≤ 2 ^ 62 + length a.ledger.records }
+    ensures aborted { IfOk result (λ b. intake_in b.ledger b.clock ≡ fold (abort_one cause.now) (intake_in a.ledger a.clock) ids.now) }
+    ensures goes { IfOk result (λ b. GoesOn a.ledger a.clock b.ledger b.clock) }
 {
+    let mut b = a;
     for id in ids {
-        abort(log, clock, cause, id)?;
+        b = abort(b, cause, id)?;
     }
-    Ok(())
+    Ok(b)
 }
 
 /// Takes an arriving transaction, and aborts the own unfinished ones that conflict with it.
-fn take_prepare(
-    alloc: Global,
-    log: &mut ExchangeLog,
-    clock: &mut u64,
-    p: Prepare,
-) -> Result<(), AllocError>
-    requires origin { p.id.site < log.old.count }
-    requires bounded { clock.old ≤ 2 ^ 62 + length log.old.records }
-    ensures taken { IfOk result (λ _. intake_in log.new clock.new ≡ take_prepare log.old.site (intake_in log.old clock.old) p) }
-    ensures goes { IfOk result (λ _. GoesOn log.old clock.old log.new clock.new) }
-    ensures same { IsSameSite log.old log.new }
+fn take_prepare(a: Taking, site: SiteId, p: Prepare) -> Result<Taking, AllocError>
+    requires here { site < a.ledger.count }
+    requires origin { p.id.site < a.ledger.count }
+    requires after { IsAfter a.ledger.records (Record.Prepare p) }
+    requires bounded { a.clock ≤ 2 ^ 62 + length a.ledger.records }
+    ensures taken { IfOk result (λ b. intake_in b.ledger b.clock ≡ take_prepare site (intake_in a.ledger a.clock) p) }
+    ensures goes { IfOk result (λ b. GoesOn a.ledger a.clock b.ledger b.clock) }
 {
+    let Taking { ledger, clock } = a;
     let id = p.id();
-    let ids = clashing(alloc, log.records(), log.site(), &p)?;
-    take(log, *clock, Record::Prepare(p))?;
-    abort_all(log, clock, &id, ids.as_slice())
+    let ids = ledger.own_conflicts(site, &p)?;
+    let ledger = ledger.append_prepare(p)?;
+    abort_all(Taking { ledger, clock }, &id, ids.items())
 }
 
-/// Takes an arriving Commit or Abort, where its transaction is unfinished.
-fn take_end(log: &mut ExchangeLog, clock: u64, r: Record) -> Result<(), AllocError>
-    requires origin { origin r < log.old.count }
-    requires bounded { clock ≤ 2 ^ 62 + length log.old.records }
-    ensures taken { IfOk result (λ _. intake_in log.new clock ≡ take_end (intake_in log.old clock) (id_of r) r) }
-    ensures goes { IfOk result (λ _. GoesOn log.old clock log.new clock) }
-    ensures same { IsSameSite log.old log.new }
+/// Takes an arriving Commit, where its transaction is unfinished.
+fn take_commit(a: Taking, id: &TxnId, time: Time) -> Result<Taking, AllocError>
+    requires origin { id.now.site < a.ledger.count }
+    requires bounded { a.clock ≤ 2 ^ 62 + length a.ledger.records }
+    ensures taken { IfOk result (λ b. intake_in b.ledger b.clock ≡ take_end (intake_in a.ledger a.clock) id.now (Record.Commit id.now time)) }
+    ensures goes { IfOk result (λ b. GoesOn a.ledger a.clock b.ledger b.clock) }
 {
-    let id = r.id();
-    if is_unfinished(log.records(), &id) {
-        take(log, clock, r)?;
+    let Taking { ledger, clock } = a;
+    if ledger.holds(id) {
+        let ledger = ledger.append_commit(id, time)?;
+        Ok(Taking { ledger, clock })
+    } else {
+        Ok(Taking { ledger, clock })
     }
-    Ok(())
 }
 
-fn take_new(
-    alloc: Global,
-    log: &mut ExchangeLog,
-    clock: &mut u64,
-    r: Record,
-) -> Result<(), AllocError>
-    requires origin { origin r < log.old.count }
-    requires bounded { clock.old ≤ 2 ^ 62 + length log.old.records }
-    ensures taken { IfOk result (λ _. intake_in log.new clock.new ≡ take_new log.old.site (intake_in log.old clock.old) r) }
-    ensures goes { IfOk result (λ _. GoesOn log.old clock.old log.new clock.new) }
-    ensures same { IsSameSite log.old log.new }
+/// Takes an arriving Abort, where its transaction is unfinished.
+fn take_abort(a: Taking, id: &TxnId, time: Time, cause: &TxnId) -> Result<Taking, AllocError>
+    requires origin { id.now.site < a.ledger.count }
+    requires bounded { a.clock ≤ 2 ^ 62 + length a.ledger.records }
+    ensures taken { IfOk result (λ b. intake_in b.ledger b.clock ≡ take_end (intake_in a.ledger a.clock) id.now (Record.Abort id.now time cause.now)) }
+    ensures goes { IfOk result (λ b. GoesOn a.ledger a.clock b.ledger b.clock) }
+{
+    let Taking { ledger, clock } = a;
+    if ledger.holds(id) {
+        let ledger = ledger.append_abort(id, time, cause)?;
+        Ok(Taking { ledger, clock })
+    } else {
+        Ok(Taking { ledger, clock })
+    }
+}
+
+fn take_new(a: Taking, site: SiteId, r: Record) -> Result<Taking, AllocError>
+    requires here { site < a.ledger.count }
+    requires origin { origin r < a.ledger.count }
+    requires after { IsAfter a.ledger.records r }
+    requires bounded { a.clock ≤ 2 ^ 62 + length a.ledger.records }
+    ensures taken { IfOk result (λ b. intake_in b.ledger b.clock ≡ take_new site (intake_in a.ledger a.clock) r) }
+    ensures goes { IfOk result (λ b. GoesOn a.ledger a.clock b.ledger b.clock) }
 {
     match r {
-        Record::Prepare(p) => take_prepare(alloc, log, clock, p),
-        Record::Commit { id, time } => take_end(log, *clock, Record::Commit { id, time }),
-        Record::Abort { id, time, cause } => {
-            take_end(log, *clock, Record::Abort { id, time, cause })
-        }
+        Record::Prepare(p) => take_prepare(a, site, p),
+        Record::Commit { id, time } => take_commit(a, &id, time),
+        Record::Abort { id, time, cause } => take_abort(a, &id, time, &cause),
     }
 }
 
@@ -130,45 +125,40 @@ fn is_passed(t: &TimeTable, site: SiteId, r: &Record) -> bool
     origin == site || r.own_time().half_micros() <= t.get(site, origin).half_micros()
 }
 
-fn take_one(
-    alloc: Global,
-    t: &TimeTable,
-    log: &mut ExchangeLog,
-    clock: &mut u64,
-    r: Record,
-) -> Result<(), AllocError>
-    requires count { log.old.count ≡ t.now.count }
-    requires site { log.old.site < t.now.count }
+fn take_one(a: Taking, t: &TimeTable, site: SiteId, r: Record) -> Result<Taking, AllocError>
+    requires count { a.ledger.count ≡ t.now.count }
+    requires site { site < t.now.count }
     requires origin { origin r < t.now.count }
-    requires bounded { clock.old ≤ 2 ^ 62 + length log.old.records }
-    ensures taken { IfOk result (λ _. intake_in log.new clock.new ≡ take_one log.old.site (time_at t.now log.old.site) (intake_in log.old clock.old) r) }
-    ensures goes { IfOk result (λ _. GoesOn log.old clock.old log.new clock.new) }
-    ensures same { IsSameSite log.old log.new }
+    requires after { MayTake site (time_at t.now site) a.ledger.records r }
+    requires bounded { a.clock ≤ 2 ^ 62 + length a.ledger.records }
+    ensures taken { IfOk result (λ b. intake_in b.ledger b.clock ≡ take_one site (time_at t.now site) (intake_in a.ledger a.clock) r) }
+    ensures goes { IfOk result (λ b. GoesOn a.ledger a.clock b.ledger b.clock) }
 {
-    if is_passed(t, log.site(), &r) {
-        return Ok(());
+    if is_passed(t, site, &r) {
+        return Ok(a);
     }
-    take_new(alloc, log, clock, r)
+    take_new(a, site, r)
 }
 
 /// Takes a message's records in their order, by the table as it is.
 pub(crate) fn take_all(
-    alloc: Global,
+    a: Taking,
     t: &TimeTable,
-    log: &mut ExchangeLog,
-    clock: &mut u64,
+    site: SiteId,
     records: Records,
-) -> Result<(), AllocError>
-    requires count { log.old.count ≡ t.now.count }
-    requires site { log.old.site < t.now.count }
+) -> Result<Taking, AllocError>
+    requires count { a.ledger.count ≡ t.now.count }
+    requires site { site < t.now.count }
     requires origins { AreOf t.now.count records }
-    requires bounded { clock.old ≤ 2 ^ 62 + length log.old.records }
-    ensures taken { IfOk result (λ _. intake_in log.new clock.new ≡ take_all log.old.site (time_at t.now log.old.site) (intake_in log.old clock.old) records) }
-    ensures goes { IfOk result (λ _. GoesOn log.old clock.old log.new clock.new) }
-    ensures same { IsSameSite log.old log.new }
+    requires rise { OwnTimesRiseByOrigin records }
+    requires after { All (MayTake site (time_at t.now site) a.ledger.records) records }
+    requires bounded { a.clock ≤ 2 ^ 62 + length a.ledger.records }
+    ensures taken { IfOk result (λ b. intake_in b.ledger b.clock ≡ take_all site (time_at t.now site) (intake_in a.ledger a.clock) records) }
+    ensures goes { IfOk result (λ b. GoesOn a.ledger a.clock b.ledger b.clock) }
 {
+    let mut b = a;
     for r in records.into_items() {
-        take_one(alloc, t, log, clock, r)?;
+        b = take_one(b, t, site, r)?;
     }
-    Ok(())
+    Ok(b)
 }

@@ -4,11 +4,11 @@
 mod answers;
 mod arrivals;
 mod fresh;
+mod ledger;
 mod messages;
 mod parts;
 mod requests;
 mod rules;
 mod scan;
-mod values;
 
 pub use rules::{Core, Outcome, Summary};

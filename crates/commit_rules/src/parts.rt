@@ -1,35 +1,36 @@
 //! The parts of a core, and the small steps by which they follow the rules.
-ghost use Rattle.std.specs.Prelude.{◌≡◌, ◌+◌, ◌*◌, ◌^◌, ◌<◌, ◌≤◌, IfOk, length};
+ghost use Rattle.std.specs.Prelude.{◌≡◌, ◌+◌, ◌*◌, ◌^◌, ◌<◌, ◌≤◌, All, AllPairs, IfOk, true, false, length};
 ghost use Rattle.helios_model.specs.declared.messages.Message.{Message};
 ghost use Rattle.helios_model.specs.Plans.{count_of};
 ghost use Rattle.helios_model.specs.Offset.{is_past};
-ghost use Rattle.helios_model.specs.Exchange.{merged, take_all};
-ghost use Rattle.helios_model.specs.Node.{clock, empty_node, is_spent, known, own_open, with_clock, with_record};
+ghost use Rattle.helios_model.specs.Exchange.{is_unfinished, merged, take_all};
+ghost use Rattle.helios_model.specs.Node.{clock, empty_node, is_spent, known, own_open, with_clock};
 ghost use Rattle.helios_model.specs.Messages.{advanced, intake_of, message_to, with_records};
 ghost use Rattle.helios_model.specs.Settle.{commit_one, is_reached, ready, settle};
 ghost use Rattle.helios_model.specs.Request.{entered};
-ghost use Rattle.helios_model.specs.Log.{origin};
+ghost use Rattle.helios_model.specs.Ids.{same_id};
+ghost use Rattle.helios_model.specs.Log.{unfinished};
+ghost use Rattle.helios_model.specs.Spellable.{OwnTimesRiseByOrigin};
 ghost use Rattle.log_exchange.specs.Kept.{AreOf};
 ghost use Rattle.commit_rules.specs.Core.{IsBounded};
-ghost use Rattle.commit_rules.specs.Scan.{ready_in};
+ghost use Rattle.commit_rules.specs.Ledger.{IsAfter, MayTake};
 
-use crate::arrivals::take_all;
-use crate::scan::{count_own_open, own_open_prepare};
+use crate::arrivals::{Taking, take_all};
+use crate::ledger::Ledger;
 use helios_model::{
     LAST_READING, Message, Plan, Prepare, Record, Records, SPENT_TIME, SiteId, Time, Times, TxnId,
 };
-use log_exchange::ExchangeLog;
 use std::alloc::{AllocError, Global};
 use std::marker::Model;
 use time_table::TimeTable;
 
-/// A site's node: its plan, its table of times, and its whole log.
+/// A site's node: its plan, its table of times, and its ledger.
 #[derive(Drop)]
 pub(crate) struct Parts {
     plan: Plan,
     site: SiteId,
     table: TimeTable,
-    log: ExchangeLog,
+    ledger: Ledger,
     alloc: Global,
 }
 
@@ -40,9 +41,9 @@ impl Model for Parts {
 
     ghost Value = { Held };
 
-    ghost view = { λ p. record { plan = p.plan; node = record { site = p.site; log = p.log.records; table = p.table.times } } };
+    ghost view = { λ p. record { plan = p.plan; node = record { site = p.site; log = p.ledger.records; table = p.table.times } } };
 
-    ghost invariant = { λ p. (p.site < count_of p.plan) × (p.table.count ≡ count_of p.plan) × (p.log.count ≡ count_of p.plan) × (p.log.site ≡ p.site) };
+    ghost invariant = { λ p. (p.site < count_of p.plan) × (p.table.count ≡ count_of p.plan) × (p.ledger.count ≡ count_of p.plan) × (p.ledger.site ≡ p.site) };
 }
 
 impl Parts {
@@ -53,14 +54,20 @@ impl Parts {
     {
         let count = plan.count();
         let table = TimeTable::new(alloc, count)?;
-        let log = ExchangeLog::new(alloc, count, site)?;
+        let ledger = Ledger::new(alloc, count, site)?;
         Ok(Parts {
             plan,
             site,
             table,
-            log,
+            ledger,
             alloc,
         })
+    }
+
+    pub(crate) fn ledger(&self) -> &Ledger
+        ensures { result.now.records ≡ self.now.node.log }
+    {
+        &self.ledger
     }
 
     pub(crate) fn alloc(&self) -> Global {
@@ -71,7 +78,7 @@ impl Parts {
         ensures value { result.now ≡ self.now.node.log }
         ensures origins { AreOf (count_of self.now.plan) self.now.node.log }
     {
-        self.log.records()
+        self.ledger.log().records()
     }
 
     pub(crate) fn site(&self) -> SiteId
@@ -103,19 +110,11 @@ impl Parts {
         self.table.raise(self.site, self.site, Time::of(time));
     }
 
-    fn append(&mut self, r: Record) -> Result<(), AllocError>
-        requires { origin r < count_of self.old.plan }
-        ensures { IfOk result (λ _. self.new ≡ record { plan = self.old.plan; node = with_record self.old.node r }) }
-    {
-        self.log.append(r)?;
-        Ok(())
-    }
-
     /// How many own transactions are unfinished.
     pub(crate) fn pending(&self) -> u64
         ensures { result ≡ length (own_open self.now.node) }
     {
-        count_own_open(self.log(), self.site())
+        self.ledger.own_open(self.site)
     }
 
     fn is_heard(&self, j: SiteId, time: u64) -> bool
@@ -135,74 +134,90 @@ impl Parts {
         (0..self.plan.count()).all(|j| j == site.number() || self.is_heard(SiteId::of(j), time))
     }
 
-    /// The name of a record's transaction, where it is an own one that commits now.
-    fn ready_id(&self, r: &Record) -> Option<TxnId>
-        ensures { result ≡ ready_in self.now.plan self.now.node r.now }
-    {
-        if let Some(p) = own_open_prepare(self.log(), self.site(), r) {
-            let id = p.id();
-            if self.is_reached(id.time.half_micros()) {
-                return Some(id);
-            }
-        }
-        None
-    }
-
     /// The names of the own transactions that commit now, in log order.
-    #[tactic(auto, using(crate::proofs::Rests::ready_drop))]
+    #[tactic(auto, using(crate::proofs::Rests::reached_drop))]
     fn ready(&self) -> Result<Vec<TxnId>, AllocError>
-        ensures { IfOk result (λ ids. ids.items ≡ ready self.now.plan self.now.node) }
+        ensures items { IfOk result (λ ids. ids.items ≡ ready self.now.plan self.now.node) }
+        ensures differ { AllPairs (λ p q. same_id p.id q.id ≡ false) (unfinished self.now.node.log) }
     {
+        let own = self.ledger.own_ids(self.site)?;
         let mut ids = Vec::new(self.alloc());
-        for r in self.log() {
-            if let Some(id) = self.ready_id(r) {
-                ids.push(id)?;
+        for id in own.items() {
+            if self.is_reached(id.time.half_micros()) {
+                ids.push(*id)?;
             }
         }
         Ok(ids)
     }
 
-    fn commit(&mut self, id: &TxnId) -> Result<(), AllocError>
-        requires bounded { IsBounded self.old.plan self.old.node }
-        requires own { id.now.site ≡ self.old.node.site }
-        ensures core { IfOk result (λ _. self.new ≡ record { plan = self.old.plan; node = commit_one self.old.plan self.old.node id.now }) }
-        ensures bounded { IfOk result (λ _. IsBounded self.new.plan self.new.node) }
+    fn commit(self, id: &TxnId) -> Result<Parts, AllocError>
+        requires bounded { IsBounded self.plan self.node }
+        requires own { id.now.site ≡ self.node.site }
+        requires open { is_unfinished self.node.log id.now ≡ true }
+        ensures core { IfOk result (λ p. p ≡ record { plan = self.plan; node = commit_one self.plan self.node id.now }) }
+        ensures bounded { IfOk result (λ p. IsBounded p.plan p.node) }
     {
         prove!(self.log().len() < 1 << 60 && id.site == self.site());
         let time = self.clock() + 1;
-        self.append(Record::Commit {
-            id: *id,
-            time: Time::of(time),
-        })?;
-        self.set_clock(time);
-        Ok(())
+        let Parts {
+            plan,
+            site,
+            table,
+            ledger,
+            alloc,
+        } = self;
+        let ledger = ledger.append_commit(id, Time::of(time))?;
+        let mut parts = Parts {
+            plan,
+            site,
+            table,
+            ledger,
+            alloc,
+        };
+        parts.set_clock(time);
+        Ok(parts)
     }
 
     /// Commits what can commit.
-    pub(crate) fn settle(&mut self) -> Result<(), AllocError>
-        requires { IsBounded self.old.plan self.old.node }
-        ensures core { IfOk result (λ _. self.new ≡ record { plan = self.old.plan; node = settle self.old.plan self.old.node }) }
-        ensures bounded { IfOk result (λ _. IsBounded self.new.plan self.new.node) }
+    pub(crate) fn settle(self) -> Result<Parts, AllocError>
+        requires { IsBounded self.plan self.node }
+        ensures { IfOk result (λ p. p ≡ record { plan = self.plan; node = settle self.plan self.node }) }
     {
         let ids = self.ready()?;
+        let mut parts = self;
         for id in &ids {
-            self.commit(id)?;
+            parts = parts.commit(id)?;
         }
-        Ok(())
+        Ok(parts)
     }
 
     /// Appends a transaction of its own, whose time becomes the node's.
-    pub(crate) fn enter(&mut self, p: Prepare) -> Result<(), AllocError>
-        requires own { p.id.site ≡ self.old.node.site }
-        requires later { clock self.old.plan self.old.node ≤ p.id.time }
-        ensures core { IfOk result (λ _. self.new ≡ record { plan = self.old.plan; node = entered self.old.plan self.old.node p }) }
-        ensures clock { IfOk result (λ _. clock self.new.plan self.new.node ≡ p.id.time) }
+    pub(crate) fn enter(self, p: Prepare) -> Result<Parts, AllocError>
+        requires own { p.id.site ≡ self.node.site }
+        requires after { IsAfter self.node.log (Record.Prepare p) }
+        requires later { clock self.plan self.node ≤ p.id.time }
+        ensures core { IfOk result (λ c. c ≡ record { plan = self.plan; node = entered self.plan self.node p }) }
+        ensures clock { IfOk result (λ c. clock c.plan c.node ≡ p.id.time) }
     {
         prove!(p.id().site == self.site());
         let time = p.id().time.half_micros();
-        self.append(Record::Prepare(p))?;
-        self.set_clock(time);
-        Ok(())
+        let Parts {
+            plan,
+            site,
+            table,
+            ledger,
+            alloc,
+        } = self;
+        let ledger = ledger.append_prepare(p)?;
+        let mut parts = Parts {
+            plan,
+            site,
+            table,
+            ledger,
+            alloc,
+        };
+        parts.set_clock(time);
+        Ok(parts)
     }
 
     /// Brings the clock at least to a reading.
@@ -219,7 +234,7 @@ impl Parts {
         requires { to < count_of self.now.plan }
         ensures { IfOk result (λ m. m ≡ message_to self.now.plan self.now.node to) }
     {
-        let (records, cover) = self.log.select(to, &self.table)?;
+        let (records, cover) = self.ledger.log().select(to, &self.table)?;
         Ok(Message {
             from: self.site,
             to,
@@ -231,30 +246,48 @@ impl Parts {
     }
 
     /// Takes a message's records, and gives the clock that they bring the node to, in half microseconds.
-    fn take_records(&mut self, records: Records) -> Result<u64, AllocError>
-        requires origins { AreOf (count_of self.old.plan) records }
-        requires bounded { IsBounded self.old.plan self.old.node }
-        ensures plan { IfOk result (λ _. self.new.plan ≡ self.old.plan) }
-        ensures log { IfOk result (λ time. record { log = self.new.node.log; clock = time } ≡ take_all self.old.node.site (known self.old.plan self.old.node self.old.node.site) (intake_of self.old.plan self.old.node) records) }
-        ensures rest { IfOk result (λ _. self.new.node ≡ record { site = self.old.node.site; log = self.new.node.log; table = self.old.node.table }) }
-        ensures later { IfOk result (λ time. clock self.old.plan self.old.node ≤ time) }
-        ensures bounded { IfOk result (λ time. time ≤ 2 ^ 62 + length self.new.node.log) }
+    fn take_records(self, records: Records) -> Result<(Parts, u64), AllocError>
+        requires origins { AreOf (count_of self.plan) records }
+        requires rise { OwnTimesRiseByOrigin records }
+        requires after { All (MayTake self.node.site (known self.plan self.node self.node.site) self.node.log) records }
+        requires bounded { IsBounded self.plan self.node }
+        ensures plan { IfOk result (λ t. t.0.plan ≡ self.plan) }
+        ensures log { IfOk result (λ t. record { log = t.0.node.log; clock = t.1 } ≡ take_all self.node.site (known self.plan self.node self.node.site) (intake_of self.plan self.node) records) }
+        ensures rest { IfOk result (λ t. t.0.node ≡ record { site = self.node.site; log = t.0.node.log; table = self.node.table }) }
+        ensures later { IfOk result (λ t. clock self.plan self.node ≤ t.1) }
+        ensures bounded { IfOk result (λ t. t.1 ≤ 2 ^ 62 + length t.0.node.log) }
     {
-        let mut clock = self.clock();
-        take_all(self.alloc, &self.table, &mut self.log, &mut clock, records)?;
-        Ok(clock)
+        let clock = self.clock();
+        let Parts {
+            plan,
+            site,
+            table,
+            ledger,
+            alloc,
+        } = self;
+        let Taking { ledger, clock } = take_all(Taking { ledger, clock }, &table, site, records)?;
+        let parts = Parts {
+            plan,
+            site,
+            table,
+            ledger,
+            alloc,
+        };
+        Ok((parts, clock))
     }
 
     /// Takes a message's records.
-    pub(crate) fn with_records(&mut self, records: Records) -> Result<(), AllocError>
-        requires origins { AreOf (count_of self.old.plan) records }
-        requires bounded { IsBounded self.old.plan self.old.node }
-        ensures core { IfOk result (λ _. self.new ≡ record { plan = self.old.plan; node = with_records self.old.plan self.old.node records }) }
-        ensures bounded { IfOk result (λ _. IsBounded self.new.plan self.new.node) }
+    pub(crate) fn with_records(self, records: Records) -> Result<Parts, AllocError>
+        requires origins { AreOf (count_of self.plan) records }
+        requires rise { OwnTimesRiseByOrigin records }
+        requires after { All (MayTake self.node.site (known self.plan self.node self.node.site) self.node.log) records }
+        requires bounded { IsBounded self.plan self.node }
+        ensures core { IfOk result (λ p. p ≡ record { plan = self.plan; node = with_records self.plan self.node records }) }
+        ensures bounded { IfOk result (λ p. IsBounded p.plan p.node) }
     {
-        let clock = self.take_records(records)?;
-        self.set_clock(clock);
-        Ok(())
+        let (mut parts, clock) = self.take_records(records)?;
+        parts.set_clock(clock);
+        Ok(parts)
     }
 
     /// Takes a message's times.

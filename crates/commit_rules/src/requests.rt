@@ -1,68 +1,73 @@
 //! The rules of a request, in their order.
-ghost use Rattle.std.specs.Prelude.{◌≡◌, ◌+◌, ◌^◌, ◌<◌, ◌≤◌, IfOk, map};
+ghost use Rattle.std.specs.Prelude.{◌≡◌, ◌+◌, ◌^◌, ◌<◌, ◌≤◌, IfOk, map, not};
+ghost use Rattle.std.specs.Option.{option_map, option_or};
+ghost use Rattle.helios_model.specs.Ids.{same_version};
+ghost use Rattle.helios_model.specs.Log.{current};
 ghost use Rattle.helios_model.specs.Node.{clock, next_time};
-ghost use Rattle.helios_model.specs.Request.{accept, asked, clash_refusal, next_id, refusal, request, stale_refusal, write_at};
-ghost use Rattle.commit_rules.specs.Core.{IsBounded};
+ghost use Rattle.helios_model.specs.Request.{accept, asked, clash_refusal, next_id, request, room_refusal, stale_read, stale_refusal, unless_refused, write_at};
+ghost use Rattle.commit_rules.specs.Ledger.{IsAfter};
+ghost use Rattle.commit_rules.specs.Limits.{IsSoundNode};
 
+use crate::ledger::Ledger;
 use crate::parts::Parts;
-use crate::scan::{current_version, first_clash, first_stale, is_finished};
+use crate::scan::is_same_version;
 use helios_model::{
-    Ask, LAST_READING, MOST_OPEN, Prepare, PutItem, Puts, Record, Reply, Time, TxnId, WriteItem,
-    Writes,
+    Ask, LAST_READING, MOST_OPEN, Prepare, PutItem, Puts, ReadItem, Record, Reply, Time, TxnId,
+    WriteItem, Writes,
 };
 use std::alloc::{AllocError, Global};
 
-/// Names the current version of the first read that is stale.
-fn stale_refusal(log: &[Record], ask: &Ask) -> Result<Option<Reply>, AllocError>
-    ensures { IfOk result (λ found. found ≡ stale_refusal log.now ask.now) }
+fn is_stale(ledger: &Ledger, read: &ReadItem) -> bool
+    ensures { result ≡ not (same_version read.now.version (current ledger.now.records read.now.key)) }
 {
-    match first_stale(log, ask.reads().items()) {
+    let (version, _) = ledger.current(&read.key);
+    !is_same_version(&read.version, &version)
+}
+
+fn first_stale<'a>(ledger: &Ledger, reads: &'a [ReadItem]) -> Option<&'a ReadItem>
+    ensures { option_map (λ r. r.now) result ≡ stale_read ledger.now.records reads.now }
+{
+    reads.iter().find(|r| is_stale(ledger, r))
+}
+
+/// Names the current version of the first read that is stale.
+fn stale_refusal(ledger: &Ledger, ask: &Ask) -> Result<Option<Reply>, AllocError>
+    ensures { IfOk result (λ found. found ≡ stale_refusal ledger.now.records ask.now) }
+{
+    match first_stale(ledger, ask.reads().items()) {
         Some(read) => {
             let key = read.key.copy()?;
-            let current = current_version(log, &read.key);
+            let (current, _) = ledger.current(&read.key);
             Ok(Some(Reply::Overwritten { key, current }))
         }
         None => Ok(None),
     }
 }
 
-/// Names the first open transaction that conflicts with what is asked.
-fn clash_refusal(log: &[Record], ask: &Ask) -> Option<Reply>
-    ensures { result ≡ clash_refusal log.now ask.now }
-{
-    match first_clash(log, ask) {
-        Some(q) => Some(Reply::Conflict(q.id())),
-        None => None,
-    }
-}
-
-/// Why a request is refused, by the first rule that applies.
-fn refusal(parts: &Parts, ask: &Ask) -> Result<Option<Reply>, AllocError>
-    ensures { IfOk result (λ found. found ≡ refusal parts.now.node ask.now) }
+/// Why a request is refused, by the rules of room and of stale reads.
+fn early_refusal(parts: &Parts, ask: &Ask) -> Result<Option<Reply>, AllocError>
+    ensures { IfOk result (λ found. found ≡ option_or (room_refusal parts.now.node) (stale_refusal parts.now.node.log ask.now)) }
 {
     if parts.pending() >= MOST_OPEN {
         return Ok(Some(Reply::PoolFull));
     }
-    match stale_refusal(parts.log(), ask)? {
-        Some(reply) => Ok(Some(reply)),
-        None => Ok(clash_refusal(parts.log(), ask)),
-    }
+    stale_refusal(parts.ledger(), ask)
 }
 
-fn write_over(log: &[Record], put: PutItem) -> WriteItem
-    ensures { result ≡ write_at log.now put }
+fn write_over(ledger: &Ledger, put: PutItem) -> WriteItem
+    ensures { result ≡ write_at ledger.now.records put }
 {
-    let over = current_version(log, &put.key);
+    let (over, _) = ledger.current(&put.key);
     let PutItem { key, value } = put;
     WriteItem { key, value, over }
 }
 
-fn writes_over(alloc: Global, log: &[Record], puts: Puts) -> Result<Vec<WriteItem>, AllocError>
-    ensures { IfOk result (λ ws. ws.items ≡ map (write_at log.now) puts) }
+fn writes_over(alloc: Global, ledger: &Ledger, puts: Puts) -> Result<Vec<WriteItem>, AllocError>
+    ensures { IfOk result (λ ws. ws.items ≡ map (write_at ledger.now.records) puts) }
 {
     puts.into_items()
         .into_iter()
-        .map(|put| write_over(log, put))
+        .map(|put| write_over(ledger, put))
         .collect(alloc)
 }
 
@@ -87,36 +92,55 @@ fn transaction_for(parts: &Parts, reading: u64, ask: Ask) -> Result<Prepare, All
 {
     let id = next_name(parts, reading);
     let (reads, puts) = ask.into_parts();
-    let writes = Writes::new(writes_over(parts.alloc(), parts.log(), puts)?);
+    let writes = Writes::new(writes_over(parts.alloc(), parts.ledger(), puts)?);
     Ok(Prepare::of(id, reads, writes))
 }
 
-fn accept_asked(parts: &mut Parts, p: Prepare) -> Result<Reply, AllocError>
-    requires own { p.id.site ≡ parts.old.node.site }
-    requires later { clock parts.old.plan parts.old.node ≤ p.id.time }
+fn accept_asked(parts: Parts, p: Prepare) -> Result<(Parts, Reply), AllocError>
+    requires own { p.id.site ≡ parts.node.site }
+    requires after { IsAfter parts.node.log (Record.Prepare p) }
+    requires later { clock parts.plan parts.node ≤ p.id.time }
     requires small { p.id.time ≤ 2 ^ 62 }
-    ensures answer { IfOk result (λ reply. accept parts.old.plan parts.old.node p ≡ record { reply = reply; node = parts.new.node }) }
-    ensures plan { IfOk result (λ _. parts.new.plan ≡ parts.old.plan) }
+    ensures answer { IfOk result (λ t. accept parts.plan parts.node p ≡ record { reply = t.1; node = t.0.node }) }
+    ensures plan { IfOk result (λ t. t.0.plan ≡ parts.plan) }
 {
     let id = p.id();
-    parts.enter(p)?;
-    parts.settle()?;
-    if is_finished(parts.log(), &id) {
-        Ok(Reply::Committed(id))
+    let entered = parts.enter(p)?;
+    let settled = entered.settle()?;
+    if settled.ledger().holds(&id) {
+        Ok((settled, Reply::Prepared(id)))
     } else {
-        Ok(Reply::Prepared(id))
+        Ok((settled, Reply::Committed(id)))
+    }
+}
+
+/// Answers a request that no early rule refuses: by the first conflict, or by taking it.
+fn answer_unrefused(parts: Parts, reading: u64, ask: Ask) -> Result<(Parts, Reply), AllocError>
+    requires clock { clock parts.plan parts.node < 2 ^ 62 }
+    requires sound { IsSoundNode parts.plan parts.node }
+    ensures answer { IfOk result (λ t. unless_refused parts.plan parts.node (asked parts.node.log (next_id parts.plan parts.node reading) ask) (clash_refusal parts.node.log ask) ≡ record { reply = t.1; node = t.0.node }) }
+    ensures plan { IfOk result (λ t. t.0.plan ≡ parts.plan) }
+{
+    let p = transaction_for(&parts, reading, ask)?;
+    match parts.ledger().first_conflict(&p) {
+        Some(id) => Ok((parts, Reply::Conflict(id))),
+        None => accept_asked(parts, p),
     }
 }
 
 /// Answers a request, at a site whose clock is not spent.
-pub(crate) fn answer_request(parts: &mut Parts, reading: u64, ask: Ask) -> Result<Reply, AllocError>
-    requires { clock parts.old.plan parts.old.node < 2 ^ 62 }
-    ensures answer { IfOk result (λ reply. request parts.old.plan parts.old.node reading ask ≡ record { reply = reply; node = parts.new.node }) }
-    ensures plan { IfOk result (λ _. parts.new.plan ≡ parts.old.plan) }
+pub(crate) fn answer_request(
+    parts: Parts,
+    reading: u64,
+    ask: Ask,
+) -> Result<(Parts, Reply), AllocError>
+    requires clock { clock parts.plan parts.node < 2 ^ 62 }
+    requires sound { IsSoundNode parts.plan parts.node }
+    ensures answer { IfOk result (λ t. request parts.plan parts.node reading ask ≡ record { reply = t.1; node = t.0.node }) }
+    ensures plan { IfOk result (λ t. t.0.plan ≡ parts.plan) }
 {
-    if let Some(reply) = refusal(parts, &ask)? {
-        return Ok(reply);
+    match early_refusal(&parts, &ask)? {
+        Some(reply) => Ok((parts, reply)),
+        None => answer_unrefused(parts, reading, ask),
     }
-    let p = transaction_for(parts, reading, ask)?;
-    accept_asked(parts, p)
 }

@@ -4,14 +4,13 @@ ghost use Rattle.helios_model.specs.Plans.{PlanData, count_of};
 ghost use Rattle.helios_model.specs.Log.{current, current_value};
 ghost use Rattle.helios_model.specs.Node.{Node, empty_node, status};
 ghost use Rattle.helios_model.specs.Spellable.{IsSpellableReply, IsSpellableVersion};
+ghost use Rattle.commit_rules.specs.Limits.{IsSoundNode};
 ghost use Rattle.helios_model.specs.Step.{MayBeAsked, step};
 ghost use Rattle.helios_model.specs.World.{own_commits};
 
 use crate::answers::{answer, status};
 use crate::fresh::{own_commits, records_behind};
 use crate::parts::Parts;
-use crate::scan::current_version;
-use crate::values::current_value;
 use helios_model::{
     Commits, Entry, Key, MOST_SITES, Plan, Records, Reply, SiteId, State, Time, TxnId, Version,
 };
@@ -55,19 +54,20 @@ pub struct Summary {
 }
 
 /// Takes a step, and gives the answer, what was appended, and the own Commits among it.
-fn take_step(parts: &mut Parts, entry: Entry) -> Result<(Reply, Records, Commits), AllocError>
-    requires { MayBeAsked parts.old.plan parts.old.node.site entry.input }
-    ensures answer { IfOk result (λ t. step parts.old.plan parts.old.node entry ≡ record { reply = t.0; node = parts.new.node }) }
-    ensures plan { IfOk result (λ _. parts.new.plan ≡ parts.old.plan) }
-    ensures added { IfOk result (λ t. t.1 ≡ drop (length parts.old.node.log) parts.new.node.log) }
-    ensures commits { IfOk result (λ t. t.2 ≡ own_commits parts.old.node.site parts.new.node.log (length parts.old.node.log)) }
+fn take_step(parts: Parts, entry: Entry) -> Result<(Parts, Reply, Records, Commits), AllocError>
+    requires sound { IsSoundNode parts.plan parts.node }
+    requires may { MayBeAsked parts.plan parts.node.site entry.input }
+    ensures answer { IfOk result (λ t. step parts.plan parts.node entry ≡ record { reply = t.1; node = t.0.node }) }
+    ensures plan { IfOk result (λ t. t.0.plan ≡ parts.plan) }
+    ensures added { IfOk result (λ t. t.2 ≡ drop (length parts.node.log) t.0.node.log) }
+    ensures commits { IfOk result (λ t. t.3 ≡ own_commits parts.node.site t.0.node.log (length parts.node.log)) }
 {
     let old = parts.log().len();
     let site = parts.site();
-    let reply = answer(parts, entry)?;
-    let added = records_behind(parts.alloc(), parts.log(), old)?;
-    let commits = own_commits(parts.alloc(), parts.log(), site, old)?;
-    Ok((reply, Records::new(added), Commits::new(commits)))
+    let (after, reply) = answer(parts, entry)?;
+    let added = records_behind(after.alloc(), after.log(), old)?;
+    let commits = own_commits(after.alloc(), after.log(), site, old)?;
+    Ok((after, reply, Records::new(added), Commits::new(commits)))
 }
 
 impl Core {
@@ -94,8 +94,7 @@ impl Core {
         ensures plan { IfOk result (λ out. out.core.plan ≡ self.plan) }
         ensures site { IfOk result (λ out. out.core.site ≡ self.site) }
     {
-        let mut parts = self.parts;
-        let (reply, added, commits) = take_step(&mut parts, entry)?;
+        let (parts, reply, added, commits) = take_step(self.parts, entry)?;
         let core = Core { parts };
         let outcome = Outcome {
             core,
@@ -119,12 +118,7 @@ impl Core {
         ensures spelled { IsSpellableVersion result.0 }
         ensures value { (plan : PlanData) (n : Node) → IsCoreOf self.now plan n → result.1.now ≡ current_value n.log key.now }
     {
-        let log = self.parts.log();
-        let value: &[u8] = match current_value(log, key) {
-            Some(v) => v.items(),
-            None => &[],
-        };
-        (current_version(log, key), value)
+        self.parts.ledger().current(key)
     }
 
     /// Where the node has come to.

@@ -8,7 +8,7 @@ pub of-requires : goal.of-requires
 of-requires c =
     let made : map (write_at c.args.parts.now.node.log) c.args.ask.puts ≡ c.new-writes.result =
     sym (c.new-writes.ensures ∙ c.in_ok-writes_over.ensures
-    ∙ ap (λ log. map (write_at log) c.into_parts-reads.result.1) c.log.ensures.value
+    ∙ ap (λ log. map (write_at log) c.into_parts-reads.result.1) c.ledger.ensures
     ∙ ap (map (write_at c.args.parts.now.node.log)) c.into_parts-reads.ensures.puts) in
     subst₂ IsTransaction (sym c.into_parts-reads.ensures.reads) made
     (asked_limits c.args.parts.now.node.log (next_id c.args.parts.now.plan c.args.parts.now.node c.args.reading) c.args.ask c.into_parts-reads.ensures.limits)

@@ -6,5 +6,5 @@ use Rattle.commit_rules.proofs.rules.Core.current.Goals as goal
 
 pub returns-clause-spelled : goal.returns-clause-spelled
 returns-clause-spelled c =
-    let is : c.current_version.result ≡ current c.self.inside.parts.node.log c.args.key.now = c.current_version.ensures ∙ ap (λ log. current log c.args.key.now) c.log-log.ensures.value in
+    let is : c.current.result.0 ≡ current c.self.inside.parts.node.log c.args.key.now = c.current.ensures.version ∙ ap (λ log. current log c.args.key.now) c.ledger.ensures in
     subst IsSpellableVersion (sym is) (current_fine c.self.inside.parts.plan c.self.inside.parts.node c.self.invariant c.args.key.now)

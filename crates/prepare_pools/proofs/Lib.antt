@@ -1,0 +1,12 @@
+pub mod Lines
+pub mod Times
+pub mod Sites
+pub mod Waits
+pub mod Lists
+pub mod Touched
+pub mod Found
+pub mod Pooled
+pub mod Firsts
+pub mod Clashes
+pub mod Orders
+pub mod Gathered

@@ -1,0 +1,4 @@
+pub mod Line
+pub mod Waiting
+pub mod Touches
+pub mod Conflicts
