@@ -66,7 +66,10 @@ fn what_is_held_is_found_until_it_is_removed(rt: HostRuntime) -> Result<(), Fail
     assert_eq!(rt; pools.own_ids(own)?.items(), [first, last].as_slice());
     let asked = transaction(alloc, 0, 11, "b", "d")?;
     assert_eq!(rt; pools.first_conflict(&asked), Some(first));
-    assert_eq!(rt; pools.own_conflicts(own, &asked)?.items(), [first, last].as_slice());
+    assert_eq!(rt;
+        pools.own_conflicts(own, &asked)?.items(),
+        [first, last].as_slice()
+    );
     assert!(rt; pools.remove(first).is_some() && !pools.holds(first));
     assert_eq!(rt; pools.own_open(own), 1);
     assert_eq!(rt; pools.touching(&key(alloc, "d")?).len(), 2);
