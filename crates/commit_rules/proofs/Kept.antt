@@ -1,12 +1,12 @@
 -- A ledger that takes one more record keeps what its log says.
-use Rattle.std.proofs.Common.{◌≡◌, ◌∙◌, ap, refl, sym, subst, zero, suc, arith, ℕ, ◌+◌, ◌<◌, ◌≤◌, Bool, true, false, not, ◌||◌, ◌⊎◌, inl, inr, cond, Option, Some, None, is_some, List, [], ◌∷◌, ◌++◌, length, get_or, drop, map, filter, find, fold, All, AllPairs}
+use Rattle.std.proofs.Common.{◌≡◌, ◌∙◌, ap, refl, sym, subst, zero, suc, arith, ℕ, ◌+◌, ◌<◌, ◌≤◌, Bool, true, false, not, ◌||◌, ◌⊎◌, inl, inr, cond, Option, Some, None, is_some, List, [], ◌∷◌, ◌++◌, length, get_or, drop, map, filter, find, fold, nat_eq, All, AllPairs}
 use Rattle.std.specs.Prelude.{if◌then◌else◌}
-use Rattle.std.specs.List.{list_any}
+use Rattle.std.specs.List.{list_all, list_any, range_with_len}
 use Rattle.std.proofs.lemmas.List.Elements.{All-cons, All-filter, All-head, All-map, All-nil, All-tail, All-weaker, filter_map-append}
 use Rattle.std.proofs.lemmas.List.{drop_more, get_or_default}
 use Rattle.std.proofs.lemmas.List.Folds.{list_any-append, list_any_at}
 use Rattle.std.proofs.lemmas.List.Quantifiers.{all_pairs_push}
-use Rattle.std.proofs.lemmas.Bool.{both_ways, cases_Bool, or_left, or_parts, or_right}
+use Rattle.std.proofs.lemmas.Bool.{and_from, and_parts, both_ways, cases_Bool, le-leb, leb-true, or_left, or_parts, or_right}
 use Rattle.helios_model.specs.declared.ids.TxnId.{TxnId}
 use Rattle.helios_model.specs.declared.ids.Version.TheVariants.{Of}
 use Rattle.helios_model.specs.declared.records.Record.{Record}
@@ -17,16 +17,18 @@ use Rattle.helios_model.specs.Transactions.{Transaction, conflict}
 use Rattle.helios_model.specs.Log.{ends, finished, is_own, prepare_in, origin, own_time, prepare_of, prepares, unfinished, write_over}
 use Rattle.helios_model.specs.declared.entries.Reply.TheVariants.{Prepared, Committed}
 use Rattle.helios_model.specs.Exchange.{clashing, is_unfinished}
-use Rattle.helios_model.specs.Plans.{PlanData}
-use Rattle.helios_model.specs.Node.{Node, clock, own_open}
+use Rattle.helios_model.specs.Plans.{PlanData, count_of, latency, rtt}
+use Rattle.helios_model.specs.Node.{Node, clock, known, own_open}
+use Rattle.helios_model.specs.Offset.{is_past}
 use Rattle.helios_model.specs.Settle.{commit_one, is_reached, ready, settle}
 use Rattle.helios_model.specs.Request.{accept, entered, taken_reply}
 use Rattle.version_store.specs.declared.held.Held.{Held}
 use Rattle.version_store.specs.Store.{value_in, version_in}
 use Rattle.commit_rules.specs.Core.{Held as HeldNode}
-use Rattle.commit_rules.specs.Ledger.{IsAfter, IsKept}
-use Rattle.commit_rules.proofs.Lists.{pairs_head, pairs_tail, prepares_hold}
-use Rattle.commit_rules.proofs.OpenOnes.{finished_more, same_itself, unfinished_end, unfinished_prepare}
+use Rattle.commit_rules.specs.Ledger.{IsAfter, IsKept, TimesRise}
+use Rattle.commit_rules.proofs.Lists.{OnFound, pairs_head, pairs_tail, prepares_hold}
+use Rattle.commit_rules.proofs.Own.{own_site}
+use Rattle.commit_rules.proofs.OpenOnes.{finished_more, prepares_end, same_itself, unfinished_end, unfinished_prepare}
 use Rattle.commit_rules.proofs.Backed.{current_commit, current_other, find_among, found_passes, fresh_unended, open_found, prepare_of_grows, same_id_is, value_commit, value_other}
 
 -- whether one is found
@@ -85,16 +87,51 @@ backed_more log r old new id ended = by_test (cases_Bool (finished log id)) (cas
     by_test (inr open_one) (inr other) =
         absurd (both_ways (finished (log ++ r ∷ []) id) (finished_more log r id ∙ neither open_one other) ended)
 
-pub kept_prepare : (log : List Record) (pools pools' : List Transaction) (store : List (List ℕ × Held)) (p : Transaction) → IsKept log pools store → prepare_of log p.id ≡ None
+-- a transaction that was made after all that a log has of its origin has a new id
+pub after_fresh : (log : List Record) (p : Transaction) → IsAfter log (Prepare p) → prepare_of log p.id ≡ None
+after_fresh log p after = none_with p.id (prepares log) (prepares_hold (λ x. origin x ≡ p.id.site → own_time x < p.id.time) (λ q. q.id.site ≡ p.id.site → q.id.time < p.id.time) (λ q low. low) log after)
+  where
+    apart : (q : Transaction) → (q.id.site ≡ p.id.site → q.id.time < p.id.time) → same_id q.id p.id ≡ true → ⊥
+    apart q low same =
+        let is : q.id ≡ p.id = same_id_is q.id p.id same in
+        let less : q.id.time < p.id.time = low (ap (λ x. x.site) is) in
+        let times : q.id.time ≡ p.id.time = ap (λ x. x.time) is in
+        omega arith
+
+    none_with : (id : TxnId) (ps : List Transaction) → All (λ q. q.id.site ≡ p.id.site → q.id.time < p.id.time) ps → find (λ q. same_id q.id p.id) ps ≡ None
+    none_with id [] h = refl
+    none_with id (q ∷ qs) h = by_test (cases_Bool (same_id q.id p.id)) (none_with id qs (All-tail (λ x. x.id.site ≡ p.id.site → x.id.time < p.id.time) q qs h))
+      where
+        by_test : (same_id q.id p.id ≡ true) ⊎ (same_id q.id p.id ≡ false) → find (λ x. same_id x.id p.id) qs ≡ None → find (λ x. same_id x.id p.id) (q ∷ qs) ≡ None
+        by_test (inl here) later = absurd (apart q (All-head (λ x. x.id.site ≡ p.id.site → x.id.time < p.id.time) q qs h) here)
+        by_test (inr other) later = rw other later
+
+-- transactions whose times rise have different ids
+pub times_differ : (ps : List Transaction) → TimesRise ps → AllPairs (λ p q. same_id p.id q.id ≡ false) ps
+times_differ ps h i j d low high = by_test (cases_Bool (same_id (get_or ps i d).id (get_or ps j d).id))
+  where
+    by_test : (same_id (get_or ps i d).id (get_or ps j d).id ≡ true) ⊎ (same_id (get_or ps i d).id (get_or ps j d).id ≡ false) → same_id (get_or ps i d).id (get_or ps j d).id ≡ false
+    by_test (inl same) =
+        let is : (get_or ps i d).id ≡ (get_or ps j d).id = same_id_is (get_or ps i d).id (get_or ps j d).id same in
+        let less : (get_or ps i d).id.time < (get_or ps j d).id.time = h i j d low high (ap (λ x. x.site) is) in
+        let times : (get_or ps i d).id.time ≡ (get_or ps j d).id.time = ap (λ x. x.time) is in
+        absurd (omega arith)
+    by_test (inr apart) = apart
+
+pub open_differ : (log : List Record) → TimesRise (prepares log) → AllPairs (λ p q. same_id p.id q.id ≡ false) (unfinished log)
+open_differ log h = pairs_filter (λ p q. same_id p.id q.id ≡ false) (λ p. not (finished log p.id)) (prepares log) (times_differ (prepares log) h)
+
+pub kept_prepare : (log : List Record) (pools pools' : List Transaction) (store : List (List ℕ × Held)) (p : Transaction) → IsKept log pools store → IsAfter log (Prepare p)
     → pools' ≡ pools ++ p ∷ [] → IsKept (log ++ Prepare p ∷ []) pools' store
-kept_prepare log pools pools' store p h none more =
+kept_prepare log pools pools' store p h after more =
+    let none : prepare_of log p.id ≡ None = after_fresh log p after in
     let open_one : finished log p.id ≡ false = fresh_unended log p.id h.backed none in
     let one : filter (λ q. not (finished log q.id)) (p ∷ []) ≡ p ∷ [] = rw open_one refl in
-    let held : list_any (λ q. same_id q.id p.id) pools ≡ false = not_held log pools store p.id h none in
+    let both : prepares (log ++ Prepare p ∷ []) ≡ prepares log ++ p ∷ [] = filter_map-append prepare_in log (Prepare p ∷ []) in
     record {
       waiting = more ∙ ap (λ ps. ps ++ p ∷ []) h.waiting ∙ sym (unfinished_prepare log p ∙ ap (λ ps. unfinished log ++ ps) one);
-      differ = subst (λ ps. AllPairs (λ a b. same_id a.id b.id ≡ false) ps) (sym more)
-          (all_pairs_push (λ a b. same_id a.id b.id ≡ false) pools p h.differ (none_held p.id pools held));
+      rise = subst TimesRise (sym both) (all_pairs_push (λ a b. a.id.site ≡ b.id.site → a.id.time < b.id.time) (prepares log) p h.rise
+          (prepares_hold (λ x. origin x ≡ p.id.site → own_time x < p.id.time) (λ q. q.id.site ≡ p.id.site → q.id.time < p.id.time) (λ q low. low) log after));
       backed = backed_more log (Prepare p) h.backed (λ id e. absurd (both_ways false refl e));
       versions = λ key. h.versions key ∙ sym (current_other log (Prepare p) key h.backed refl);
       values = λ key. h.values key ∙ sym (value_other log (Prepare p) key h.backed refl);
@@ -103,8 +140,8 @@ kept_prepare log pools pools' store p h none more =
 -- the ended one is out of the pools
 module _ (log : List Record) (pools pools' : List Transaction) (store : List (List ℕ × Held)) (id : TxnId) (h : IsKept log pools store)
     (out : pools' ≡ filter (λ p. not (same_id id p.id)) pools) where
-  differ_still : AllPairs (λ a b. same_id a.id b.id ≡ false) pools'
-  differ_still = subst (λ ps. AllPairs (λ a b. same_id a.id b.id ≡ false) ps) (sym out) (pairs_filter (λ a b. same_id a.id b.id ≡ false) (λ p. not (same_id id p.id)) pools h.differ)
+  rise_still : (r : Record) → prepare_in r ≡ None → TimesRise (prepares (log ++ r ∷ []))
+  rise_still r none = subst TimesRise (sym (prepares_end log r none)) h.rise
 
   ended_backed : (r : Record) → ((other : TxnId) → ends other r ≡ same_id id other) → is_some (prepare_of log id) ≡ true
       → (other : TxnId) → ends other r ≡ true → is_some (prepare_of log other) ≡ true
@@ -113,7 +150,7 @@ module _ (log : List Record) (pools pools' : List Transaction) (store : List (Li
   pub kept_abort : (time : ℕ) (cause : TxnId) → is_some (prepare_of log id) ≡ true → IsKept (log ++ Abort id time cause ∷ []) pools' store
   kept_abort time cause some = record {
     waiting = out ∙ ap (filter (λ p. not (same_id id p.id))) h.waiting ∙ sym (unfinished_end log (Abort id time cause) refl);
-    differ = differ_still;
+    rise = rise_still (Abort id time cause) refl;
     backed = backed_more log (Abort id time cause) h.backed (ended_backed (Abort id time cause) (λ other. refl) some);
     versions = λ key. h.versions key ∙ sym (current_other log (Abort id time cause) key h.backed refl);
     values = λ key. h.values key ∙ sym (value_other log (Abort id time cause) key h.backed refl);
@@ -125,7 +162,7 @@ module _ (log : List Record) (pools pools' : List Transaction) (store : List (Li
       → IsKept (log ++ Commit id time ∷ []) pools' store'
   kept_commit store' time p found versions values = record {
     waiting = out ∙ ap (filter (λ q. not (same_id id q.id))) h.waiting ∙ sym (unfinished_end log (Commit id time) refl);
-    differ = differ_still;
+    rise = rise_still (Commit id time) refl;
     backed = backed_more log (Commit id time) h.backed (ended_backed (Commit id time) (λ other. refl) (ap (λ o. is_some o) named));
     versions = λ key. versions key
         ∙ ap (λ x. if contains_text (map (λ w. w.key) p.writes) key then Of x else version_in store key) (sym same)
@@ -210,25 +247,6 @@ known_grows log more ids h =
     All-weaker (λ id. is_some (prepare_of log id) ≡ true) (λ id. is_some (prepare_of (log ++ more) id) ≡ true)
     (λ id some. ap (λ o. is_some o) (prepare_of_grows log more id some) ∙ some) ids h
 
--- a transaction that was made after all that a log has of its origin has a new id
-pub after_fresh : (log : List Record) (p : Transaction) → IsAfter log (Prepare p) → prepare_of log p.id ≡ None
-after_fresh log p after = none_with p.id (prepares log) (prepares_hold (λ x. origin x ≡ p.id.site → own_time x < p.id.time) (λ q. q.id.site ≡ p.id.site → q.id.time < p.id.time) (λ q low. low) log after)
-  where
-    apart : (q : Transaction) → (q.id.site ≡ p.id.site → q.id.time < p.id.time) → same_id q.id p.id ≡ true → ⊥
-    apart q low same =
-        let is : q.id ≡ p.id = same_id_is q.id p.id same in
-        let less : q.id.time < p.id.time = low (ap (λ x. x.site) is) in
-        let times : q.id.time ≡ p.id.time = ap (λ x. x.time) is in
-        omega arith
-
-    none_with : (id : TxnId) (ps : List Transaction) → All (λ q. q.id.site ≡ p.id.site → q.id.time < p.id.time) ps → find (λ q. same_id q.id p.id) ps ≡ None
-    none_with id [] h = refl
-    none_with id (q ∷ qs) h = by_test (cases_Bool (same_id q.id p.id)) (none_with id qs (All-tail (λ x. x.id.site ≡ p.id.site → x.id.time < p.id.time) q qs h))
-      where
-        by_test : (same_id q.id p.id ≡ true) ⊎ (same_id q.id p.id ≡ false) → find (λ x. same_id x.id p.id) qs ≡ None → find (λ x. same_id x.id p.id) (q ∷ qs) ≡ None
-        by_test (inl here) later = absurd (apart q (All-head (λ x. x.id.site ≡ p.id.site → x.id.time < p.id.time) q qs h) here)
-        by_test (inr other) later = rw other later
-
 -- another transaction is unfinished still once one is ended
 pub open_still : (log : List Record) (r : Record) (id other : TxnId) → prepare_in r ≡ None → ((x : TxnId) → ends x r ≡ same_id id x) → same_id id other ≡ false
     → is_unfinished log other ≡ true → is_unfinished (log ++ r ∷ []) other ≡ true
@@ -266,11 +284,11 @@ module _ (plan : PlanData) (n : Node) where
       (All-filter (λ p. is_reached plan n p.id.time) (λ q. is_unfinished n.log q.id ≡ true) (own_open n)
       (All-filter (is_own n.site) (λ q. is_unfinished n.log q.id ≡ true) (unfinished n.log) (open_held n.log)))
 
-  pub ready_differ : AllPairs (λ p q. same_id p.id q.id ≡ false) (unfinished n.log) → AllPairs (λ a b. same_id a b ≡ false) (ready plan n)
+  pub ready_differ : TimesRise (prepares n.log) → AllPairs (λ a b. same_id a b ≡ false) (ready plan n)
   ready_differ h =
       pairs_ids (filter (λ p. is_reached plan n p.id.time) (own_open n))
       (pairs_filter (λ a b. same_id a.id b.id ≡ false) (λ p. is_reached plan n p.id.time) (own_open n)
-      (pairs_filter (λ a b. same_id a.id b.id ≡ false) (is_own n.site) (unfinished n.log) h))
+      (pairs_filter (λ a b. same_id a.id b.id ≡ false) (is_own n.site) (unfinished n.log) (open_differ n.log h)))
 
   pub committed_still : (n' : Node) (ids : List TxnId) (i : ℕ) (id e : TxnId) → n' ≡ commit_one plan n id → id ≡ get_or ids i e → i < length ids → AllPairs (λ a b. same_id a b ≡ false) ids
       → ((k : ℕ) (d : TxnId) → i ≤ k → k < length ids → is_unfinished n.log (get_or ids k d) ≡ true)
@@ -337,3 +355,68 @@ settle_step h h' ids i id e total core is low so_far =
     ∙ ap (λ y. fold (commit_one h.plan) (commit_one h.plan h.node y) (drop (i + 1) ids)) is
     ∙ sym (ap (fold (commit_one h.plan) h.node) (drop_more ids i e low))
     ∙ so_far
+
+-- what commits, where the first own one does not
+
+abbrev first_of : {X : Type 0} → List X → Option X
+first_of [] = None
+first_of (x ∷ xs) = Some x
+
+first_kept : {X : Type 0} (t : X → Bool) (xs : List X) → find t xs ≡ first_of (filter t xs)
+first_kept t [] = refl
+first_kept {X = X} t (x ∷ xs) = by_test (cases_Bool (t x)) (first_kept t xs)
+  where
+    by_test : (t x ≡ true) ⊎ (t x ≡ false) → find t xs ≡ first_of (filter t xs) → find t (x ∷ xs) ≡ first_of (filter t (x ∷ xs))
+    by_test (inl here) rest = rw here refl
+    by_test (inr other) rest = rw other rest
+
+none_kept : {X : Type 0} (t : X → Bool) (xs : List X) → All (λ x. t x ≡ false) xs → filter t xs ≡ []
+none_kept t [] h = refl
+none_kept t (x ∷ xs) h = let here : t x ≡ false = All-head (λ y. t y ≡ false) x xs h in rw here (none_kept t xs (All-tail (λ y. t y ≡ false) x xs h))
+
+module _ (plan : PlanData) (n : Node) where
+  -- a time is reached where a later one is
+  reached_earlier : (a b : ℕ) → a ≤ b → is_reached plan n b ≡ true → is_reached plan n a ≡ true
+  reached_earlier a b low h = goes (range_with_len 0 (count_of plan)) h
+    where
+      each : (j : ℕ) → (nat_eq j n.site || is_past plan n.site j b (known plan n n.site j)) ≡ true → (nat_eq j n.site || is_past plan n.site j a (known plan n n.site j)) ≡ true
+      each j past = by_test (cases_Bool (nat_eq j n.site))
+        where
+          by_test : (nat_eq j n.site ≡ true) ⊎ (nat_eq j n.site ≡ false) → (nat_eq j n.site || is_past plan n.site j a (known plan n n.site j)) ≡ true
+          by_test (inl own) = rw own refl
+          by_test (inr other) =
+              let later : is_past plan n.site j b (known plan n n.site j) ≡ true = rw other at past in
+              let within : b + latency plan n.site ≤ known plan n n.site j + rtt plan n.site j = leb-true (b + latency plan n.site) (known plan n n.site j + rtt plan n.site j) later in
+              rw other (le-leb (a + latency plan n.site) (known plan n n.site j + rtt plan n.site j) (omega arith))
+
+      goes : (js : List ℕ) → list_all (λ j. nat_eq j n.site || is_past plan n.site j b (known plan n n.site j)) js ≡ true → list_all (λ j. nat_eq j n.site || is_past plan n.site j a (known plan n n.site j)) js ≡ true
+      goes [] e = refl
+      goes (j ∷ js) e =
+          let parts = and_parts (nat_eq j n.site || is_past plan n.site j b (known plan n n.site j)) (list_all (λ k. nat_eq k n.site || is_past plan n.site k b (known plan n n.site k)) js) e in
+          and_from (nat_eq j n.site || is_past plan n.site j a (known plan n n.site j)) (list_all (λ k. nat_eq k n.site || is_past plan n.site k a (known plan n n.site k)) js) (each j parts.0) (goes js parts.1)
+
+  own_rise : TimesRise (prepares n.log) → TimesRise (own_open n)
+  own_rise h =
+      pairs_filter (λ p q. p.id.site ≡ q.id.site → p.id.time < q.id.time) (is_own n.site) (unfinished n.log)
+      (pairs_filter (λ p q. p.id.site ≡ q.id.site → p.id.time < q.id.time) (λ p. not (finished n.log p.id)) (prepares n.log) h)
+
+  none_reached : (ps : List Transaction) → TimesRise ps → All (λ p. p.id.site ≡ n.site) ps → OnFound (λ p. is_reached plan n p.id.time ≡ false) (first_of ps)
+      → filter (λ p. is_reached plan n p.id.time) ps ≡ []
+  none_reached [] h own first = refl
+  none_reached (p ∷ ps) h own first =
+      none_kept (λ q. is_reached plan n q.id.time) (p ∷ ps) (All-cons (λ q. is_reached plan n q.id.time ≡ false) p ps first
+      (λ k d low. later (get_or ps k d) (pairs_head (λ a b. a.id.site ≡ b.id.site → a.id.time < b.id.time) p ps h k d low
+      (All-head (λ q. q.id.site ≡ n.site) p ps own ∙ sym (All-tail (λ q. q.id.site ≡ n.site) p ps own k d low)))))
+    where
+      later : (q : Transaction) → p.id.time < q.id.time → is_reached plan n q.id.time ≡ false
+      later q less = by_test (cases_Bool (is_reached plan n q.id.time))
+        where
+          by_test : (is_reached plan n q.id.time ≡ true) ⊎ (is_reached plan n q.id.time ≡ false) → is_reached plan n q.id.time ≡ false
+          by_test (inl past) = absurd (both_ways (is_reached plan n p.id.time) first (reached_earlier p.id.time q.id.time (omega arith) past))
+          by_test (inr waits) = waits
+
+  pub none_ready : (o : Option Transaction) → o ≡ find (is_own n.site) (unfinished n.log) → OnFound (λ p. is_reached plan n p.id.time ≡ false) o → TimesRise (prepares n.log)
+      → ready plan n ≡ []
+  none_ready o is first rise =
+      ap (map (λ p. p.id)) (none_reached (own_open n) (own_rise rise) (own_site n.site (unfinished n.log))
+      (subst (OnFound (λ p. is_reached plan n p.id.time ≡ false)) (is ∙ first_kept (is_own n.site) (unfinished n.log)) first))

@@ -18,7 +18,7 @@ use Rattle.commit_rules.proofs.Lists.{fewer, fewer_in, filter_twice, not_or, or_
 pub finished_more : (log : List Record) (r : Record) (id : TxnId) → finished (log ++ r ∷ []) id ≡ (finished log id || ends id r)
 finished_more log r id = list_any-append (ends id) log (r ∷ []) ∙ ap (λ b. finished log id || b) (or_false (ends id r))
 
-prepares_end : (log : List Record) (r : Record) → prepare_in r ≡ None → prepares (log ++ r ∷ []) ≡ prepares log
+pub prepares_end : (log : List Record) (r : Record) → prepare_in r ≡ None → prepares (log ++ r ∷ []) ≡ prepares log
 prepares_end log r e =
     let nothing : prepares (r ∷ []) ≡ [] = ap (λ o. cons_option o []) e in
     filter_map-append prepare_in log (r ∷ []) ∙ ap (λ ps. prepares log ++ ps) nothing ∙ append-nil (prepares log)

@@ -11,7 +11,7 @@ use Rattle.helios_model.specs.Plans.{PlanData}
 use Rattle.helios_model.specs.Node.{Node, own_open}
 use Rattle.helios_model.specs.Settle.{is_reached, ready}
 
-own_site : (site : ℕ) (ps : List Transaction) → All (λ p. p.id.site ≡ site) (filter (is_own site) ps)
+pub own_site : (site : ℕ) (ps : List Transaction) → All (λ p. p.id.site ≡ site) (filter (is_own site) ps)
 own_site site ps =
     All-weaker (λ p. is_own site p ≡ true) (λ p. p.id.site ≡ site) (λ p own. eqb-true p.id.site site own) (filter (is_own site) ps) (filter_passes (is_own site) ps)
 

@@ -2,6 +2,8 @@
 ghost use Rattle.std.specs.Prelude.{◌≡◌, ◌++◌, IfOk, OnOk, drop};
 ghost use Rattle.std.specs.Option.{option_to_list};
 ghost use Rattle.helios_model.specs.World.{own_commits};
+ghost use Rattle.helios_model.specs.Log.{prepares};
+ghost use Rattle.commit_rules.specs.Ledger.{TimesRise};
 ghost use Rattle.commit_rules.specs.Scan.{own_commit_in};
 
 use crate::scan::own_commit;
@@ -42,6 +44,7 @@ fn push_commit(
     r: &Record,
     site: SiteId,
 ) -> Result<(), AllocError>
+    requires { TimesRise (prepares log.now) }
     ensures { OnOk result (commits.new.items ≡ commits.old.items ++ option_to_list (own_commit_in site log.now r.now)) }
 {
     if let Some(commit) = own_commit(log, r, site)? {
@@ -57,6 +60,7 @@ pub(crate) fn own_commits(
     site: SiteId,
     old: usize,
 ) -> Result<Vec<CommitEvent>, AllocError>
+    requires { TimesRise (prepares log.now) }
     ensures { IfOk result (λ commits. commits.items ≡ own_commits site log.now old) }
 {
     let mut commits = Vec::new(alloc);

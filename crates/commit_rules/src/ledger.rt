@@ -1,12 +1,11 @@
 //! A log with what is looked up in it: the unfinished transactions, and the current version and value of each key.
-ghost use Rattle.std.specs.Prelude.{◌≡◌, ◌<◌, true, false, AllPairs, find, filter, length, map, is_some, IfOk, if◌then◌else◌};
-ghost use Rattle.std.specs.Option.{option_map};
+ghost use Rattle.std.specs.Prelude.{◌≡◌, ◌<◌, true, find, filter, length, map, is_some, IfOk, if◌then◌else◌};
+ghost use Rattle.std.specs.Option.{option_copied, option_map};
 ghost use Rattle.helios_model.specs.Exchange.{clashing, is_unfinished};
-ghost use Rattle.helios_model.specs.Ids.{same_id};
-ghost use Rattle.helios_model.specs.Log.{current, current_value, is_own, prepare_of, unfinished};
+ghost use Rattle.helios_model.specs.Log.{current, current_value, is_own, prepare_of, prepares, unfinished};
 ghost use Rattle.helios_model.specs.Transactions.{conflict};
 ghost use Rattle.log_exchange.specs.Kept.{appended, first_log};
-ghost use Rattle.commit_rules.specs.Ledger.{IsAfter};
+ghost use Rattle.commit_rules.specs.Ledger.{IsAfter, TimesRise};
 
 use helios_model::{Key, Prepare, Record, SiteId, Time, TxnId, TxnIds, Version};
 use log_exchange::ExchangeLog;
@@ -48,7 +47,8 @@ impl Ledger {
     }
 
     pub(crate) fn log(&self) -> &ExchangeLog
-        ensures { result.now ≡ self.now }
+        ensures value { result.now ≡ self.now }
+        ensures rise { TimesRise (prepares self.now.records) }
     {
         &self.log
     }
@@ -82,10 +82,18 @@ impl Ledger {
         self.pools.own_open(site)
     }
 
+    /// The first of a site's unfinished transactions.
+    pub(crate) fn first_own(&self, site: SiteId) -> Option<&Prepare>
+        ensures first { option_copied result ≡ find (is_own site) (unfinished self.now.records) }
+        ensures rise { TimesRise (prepares self.now.records) }
+    {
+        self.pools.first_own(site)
+    }
+
     /// The names of a site's unfinished transactions, in log order.
     pub(crate) fn own_ids(&self, site: SiteId) -> Result<TxnIds, AllocError>
         ensures items { IfOk result (λ ids. ids ≡ map (λ p. p.id) (filter (is_own site) (unfinished self.now.records))) }
-        ensures differ { AllPairs (λ p q. same_id p.id q.id ≡ false) (unfinished self.now.records) }
+        ensures rise { TimesRise (prepares self.now.records) }
     {
         self.pools.own_ids(site)
     }

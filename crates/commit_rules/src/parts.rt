@@ -1,5 +1,5 @@
 //! The parts of a core, and the small steps by which they follow the rules.
-ghost use Rattle.std.specs.Prelude.{◌≡◌, ◌+◌, ◌*◌, ◌^◌, ◌<◌, ◌≤◌, All, AllPairs, IfOk, true, false, length};
+ghost use Rattle.std.specs.Prelude.{◌≡◌, ◌+◌, ◌*◌, ◌^◌, ◌<◌, ◌≤◌, All, IfOk, [], true, false, length};
 ghost use Rattle.helios_model.specs.declared.messages.Message.{Message};
 ghost use Rattle.helios_model.specs.Plans.{count_of};
 ghost use Rattle.helios_model.specs.Offset.{is_past};
@@ -8,12 +8,11 @@ ghost use Rattle.helios_model.specs.Node.{clock, empty_node, is_spent, known, ow
 ghost use Rattle.helios_model.specs.Messages.{advanced, intake_of, message_to, with_records};
 ghost use Rattle.helios_model.specs.Settle.{commit_one, is_reached, ready, settle};
 ghost use Rattle.helios_model.specs.Request.{entered};
-ghost use Rattle.helios_model.specs.Ids.{same_id};
-ghost use Rattle.helios_model.specs.Log.{unfinished};
+ghost use Rattle.helios_model.specs.Log.{prepares};
 ghost use Rattle.helios_model.specs.Spellable.{OwnTimesRiseByOrigin};
 ghost use Rattle.log_exchange.specs.Kept.{AreOf};
 ghost use Rattle.commit_rules.specs.Core.{IsBounded};
-ghost use Rattle.commit_rules.specs.Ledger.{IsAfter, MayTake};
+ghost use Rattle.commit_rules.specs.Ledger.{IsAfter, MayTake, TimesRise};
 
 use crate::arrivals::{Taking, take_all};
 use crate::ledger::Ledger;
@@ -77,6 +76,7 @@ impl Parts {
     pub(crate) fn log(&self) -> &[Record]
         ensures value { result.now ≡ self.now.node.log }
         ensures origins { AreOf (count_of self.now.plan) self.now.node.log }
+        ensures rise { TimesRise (prepares self.now.node.log) }
     {
         self.ledger.log().records()
     }
@@ -134,11 +134,21 @@ impl Parts {
         (0..self.plan.count()).all(|j| j == site.number() || self.is_heard(SiteId::of(j), time))
     }
 
+    /// Whether the first own unfinished transaction commits now. Where it does not, no later one does.
+    fn may_commit(&self) -> bool
+        ensures { result ≡ false → ready self.now.plan self.now.node ≡ [] }
+    {
+        match self.ledger.first_own(self.site) {
+            Some(p) => self.is_reached(p.id().time.half_micros()),
+            None => false,
+        }
+    }
+
     /// The names of the own transactions that commit now, in log order.
     #[tactic(auto, using(crate::proofs::Rests::reached_drop))]
     fn ready(&self) -> Result<Vec<TxnId>, AllocError>
         ensures items { IfOk result (λ ids. ids.items ≡ ready self.now.plan self.now.node) }
-        ensures differ { AllPairs (λ p q. same_id p.id q.id ≡ false) (unfinished self.now.node.log) }
+        ensures rise { TimesRise (prepares self.now.node.log) }
     {
         let own = self.ledger.own_ids(self.site)?;
         let mut ids = Vec::new(self.alloc());
@@ -183,6 +193,9 @@ impl Parts {
         requires { IsBounded self.plan self.node }
         ensures { IfOk result (λ p. p ≡ record { plan = self.plan; node = settle self.plan self.node }) }
     {
+        if !self.may_commit() {
+            return Ok(self);
+        }
         let ids = self.ready()?;
         let mut parts = self;
         for id in &ids {

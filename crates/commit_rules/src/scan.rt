@@ -2,8 +2,9 @@
 ghost use Rattle.std.specs.Prelude.{◌≡◌, ◌&&◌, IfOk, find, if◌then◌else◌, is_some, nat_eq};
 ghost use Rattle.std.specs.Option.{option_map};
 ghost use Rattle.helios_model.specs.Ids.{same_id, same_version};
-ghost use Rattle.helios_model.specs.Log.{ends, event_at, prepare_of};
+ghost use Rattle.helios_model.specs.Log.{ends, event_at, prepare_of, prepares};
 ghost use Rattle.helios_model.specs.Node.{ending_of};
+ghost use Rattle.commit_rules.specs.Ledger.{TimesRise};
 ghost use Rattle.commit_rules.specs.Scan.{named_in, own_commit_in, own_event};
 
 use helios_model::{CommitEvent, Prepare, Record, SiteId, State, Time, TxnId, Version};
@@ -43,12 +44,14 @@ fn prepare_named<'a>(r: &'a Record, id: &TxnId) -> Option<&'a Prepare>
     }
 }
 
-#[tactic(auto, using(crate::proofs::Rests::prepare_of_drop))]
+/// The Prepare of an id, looked for from the last record on.
 fn find_prepare<'a>(log: &'a [Record], id: &TxnId) -> Option<&'a Prepare>
+    requires { TimesRise (prepares log.now) }
     ensures { option_map (λ p. p.now) result ≡ prepare_of log.now id.now }
 {
-    for r in log {
-        if let Some(p) = prepare_named(r, id) {
+    let count = log.len();
+    for k in 0..count {
+        if let Some(p) = prepare_named(&log[count - 1 - k], id) {
             return Some(p);
         }
     }
@@ -61,6 +64,7 @@ pub(crate) fn own_commit(
     r: &Record,
     site: SiteId,
 ) -> Result<Option<CommitEvent>, AllocError>
+    requires { TimesRise (prepares log.now) }
     ensures { IfOk result (λ found. found ≡ own_commit_in site log.now r.now) }
 {
     match r {
@@ -103,6 +107,7 @@ pub(crate) fn ending_state(log: &[Record], id: &TxnId) -> State
 
 /// What is known at its own site of a transaction.
 pub(crate) fn state_of(log: &[Record], site: SiteId, id: &TxnId) -> State
+    requires { TimesRise (prepares log.now) }
     ensures { result ≡ (if nat_eq id.now.site site && is_some (prepare_of log.now id.now) then ending_of (find (ends id.now) log.now) else State.Unknown) }
 {
     if id.site == site && find_prepare(log, id).is_some() {

@@ -10,5 +10,5 @@ returns c =
     message_of c.self.inside.plan c.self.inside.site c.args.to c.count.result c.self.inside.ledger c.self.inside.table c.args.self.now
     c.in_ok-copy.field-0 c.in_ok-records.cover c.in_ok-records.records c.self.view_is c.self.invariant.1 c.self.invariant.2 c.self.invariant.3
     c.count.ensures.value (c.in_ok-copy.ensures ∙ c.grid.ensures)
-    (c.in_ok-records.ensures.cover ∙ ap (λ l. cover_of l.count (time_at c.self.inside.table l.site) (time_at c.self.inside.table c.args.to) l.records) c.log.ensures)
-    (c.in_ok-records.ensures.records ∙ ap (λ l. sent_records (time_at c.self.inside.table c.args.to) l.records) c.log.ensures)
+    (c.in_ok-records.ensures.cover ∙ ap (λ l. cover_of l.count (time_at c.self.inside.table l.site) (time_at c.self.inside.table c.args.to) l.records) c.log.ensures.value)
+    (c.in_ok-records.ensures.records ∙ ap (λ l. sent_records (time_at c.self.inside.table c.args.to) l.records) c.log.ensures.value)

@@ -13,7 +13,7 @@ loop-id-init c =
       ap (fold (commit_one c.args.self.plan) c.args.self.node) are,
       c.requires,
       ready_here c.args.self.plan c.args.self.node c.deref-id-items.result.now are,
-      subst (λ ids. AllPairs (λ a b. same_id a b ≡ false) ids) (sym are) (ready_differ c.args.self.plan c.args.self.node c.in_ok-ids.ensures.differ),
+      subst (λ ids. AllPairs (λ a b. same_id a b ≡ false) ids) (sym are) (ready_differ c.args.self.plan c.args.self.node c.in_ok-ids.ensures.rise),
       λ k d above below. subst (λ ids. All (λ id. is_unfinished c.args.self.node.log id ≡ true) ids) (sym are) (ready_open c.args.self.plan c.args.self.node) k d below,
     )
 
