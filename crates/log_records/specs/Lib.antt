@@ -1,0 +1,6 @@
+pub mod Fields
+pub mod Ids
+pub mod Keys
+pub mod Items
+pub mod Records
+pub mod Decoding
