@@ -6,7 +6,9 @@ mod decoding;
 mod encoding;
 mod faults;
 mod given;
+mod laws;
 
 pub use decoding::decode_record;
 pub use encoding::encode_record;
 pub use faults::DecodeFault;
+pub use laws::records_are_read_again;
