@@ -69,8 +69,10 @@ pub id_again : (count whole : ℕ) (id : TxnId) (rest : List ℕ) → IsSpellabl
 unfolding id_at
 id_again count whole id rest h =
     let last = h.last in
-    rw (byte_again (λ b. nat_lt b count) whole id.site (to_be_bytes w64 id.time ++ rest) (lt-ltb id.site count h.here),
-        number_again w64 (2 ^ 64) wide64 (is_within 1 last_time) whole id.time rest (omega (arith, last)) (within_true 1 last_time id.time h.some h.last)) refl
+    rw (
+      byte_again (λ b. nat_lt b count) whole id.site (to_be_bytes w64 id.time ++ rest) (lt-ltb id.site count h.here),
+      number_again w64 (2 ^ 64) wide64 (is_within 1 last_time) whole id.time rest (omega (arith, last)) (within_true 1 last_time id.time h.some h.last),
+    ) refl
 
 pub version_again : (whole : ℕ) (version : Version) (rest : List ℕ) → IsSpellableVersion version → version_at whole (version_bytes version ++ rest) ≡ Ok (version, rest)
 unfolding version_at
@@ -99,15 +101,19 @@ key_from_test bytes e =
 pub key_again : (given : List ℕ → Bool) (whole : ℕ) (key rest : List ℕ) → IsKey key → given key ≡ false → key_at given whole (key_bytes key ++ rest) ≡ Ok (key, rest)
 unfolding key_at
 key_again given whole key rest h fresh =
-    rw (byte_again (is_within 1 most_key_bytes) whole (length key) (key ++ rest) (within_true 1 most_key_bytes (length key) h.some h.most),
-        text_again (λ k. is_key k && not (given k)) whole key rest (and_from _ _ (is_key_true key h) (not_from_false _ fresh))) refl
+    rw (
+      byte_again (is_within 1 most_key_bytes) whole (length key) (key ++ rest) (within_true 1 most_key_bytes (length key) h.some h.most),
+      text_again (λ k. is_key k && not (given k)) whole key rest (and_from _ _ (is_key_true key h) (not_from_false _ fresh)),
+    ) refl
 
 pub value_again : (whole : ℕ) (value rest : List ℕ) → IsValue value → value_at whole (value_bytes value ++ rest) ≡ Ok (value, rest)
 unfolding value_at
 value_again whole value rest h =
     ap (value_at whole) (append_assoc (to_be_bytes w16 (length value)) value rest)
-    ∙ rw (number_again w16 (2 ^ 16) wide16 (is_within 0 most_value_bytes) whole (length value) (value ++ rest) (omega (arith, h)) (within_true 0 most_value_bytes (length value) (omega arith) h),
-        text_again (λ v. true) whole value rest refl) refl
+    ∙ rw (
+      number_again w16 (2 ^ 16) wide16 (is_within 0 most_value_bytes) whole (length value) (value ++ rest) (omega (arith, h)) (within_true 0 most_value_bytes (length value) (omega arith) h),
+      text_again (λ v. true) whole value rest refl,
+    ) refl
 
 -- ---- lists with distinct keys
 
@@ -138,8 +144,10 @@ each_again {X} key spelled Fits item again (x ∷ xs) before rest fits d =
 pub list_again : {X : Type 0} (key : X → List ℕ) (spelled : X → List ℕ) (Fits : X → Type 0) (item : List X → List ℕ → Result (X × List ℕ) DecodeFault) → ReadsAgain key spelled Fits item → (whole : ℕ) (xs : List X) (rest : List ℕ) → length xs ≤ most_items → all_differ key xs ≡ true → All Fits xs
     → list_at item whole (list_bytes spelled xs ++ rest) ≡ Ok (xs, rest)
 list_again key spelled Fits item again whole xs rest few d fits =
-    rw (byte_again (is_within 0 most_items) whole (length xs) (flat_map spelled xs ++ rest) (within_true 0 most_items (length xs) (omega arith) few),
-        each_again key spelled Fits item again xs [] rest fits d) refl
+    rw (
+      byte_again (is_within 0 most_items) whole (length xs) (flat_map spelled xs ++ rest) (within_true 0 most_items (length xs) (omega arith) few),
+      each_again key spelled Fits item again xs [] rest fits d,
+    ) refl
 
 -- ---- reads and writes
 
@@ -163,10 +171,13 @@ write_again : (whole : ℕ) → ReadsAgain (λ w. w.key) write_bytes WriteFits (
 unfolding write_at
 write_again whole before w rest fits fresh =
     let regrouped : write_bytes w ++ rest ≡ key_bytes w.key ++ (value_bytes w.value ++ (version_bytes w.over ++ rest)) =
-        append_assoc (key_bytes w.key ++ value_bytes w.value) (version_bytes w.over) rest ∙ append_assoc (key_bytes w.key) (value_bytes w.value) (version_bytes w.over ++ rest) in
+    append_assoc (key_bytes w.key ++ value_bytes w.value) (version_bytes w.over) rest ∙ append_assoc (key_bytes w.key) (value_bytes w.value) (version_bytes w.over ++ rest) in
     ap (write_at whole before) regrouped
-    ∙ rw (key_again (is_given (λ (x : WriteItem). x.key) before) whole w.key (value_bytes w.value ++ (version_bytes w.over ++ rest)) fits.0 fresh,
-        value_again whole w.value (version_bytes w.over ++ rest) fits.1, version_again whole w.over rest fits.2) refl
+    ∙ rw (
+      key_again (is_given (λ (x : WriteItem). x.key) before) whole w.key (value_bytes w.value ++ (version_bytes w.over ++ rest)) fits.0 fresh,
+      value_again whole w.value (version_bytes w.over ++ rest) fits.1,
+      version_again whole w.over rest fits.2,
+    ) refl
 
 pub writes_again : (whole : ℕ) (writes : List WriteItem) (rest : List ℕ) → AreSpellableWrites writes → writes_at whole (writes_bytes writes ++ rest) ≡ Ok (writes, rest)
 unfolding writes_at
@@ -178,10 +189,13 @@ prepare_again : (count whole : ℕ) (p : Transaction) (rest : List ℕ) → IsSp
 unfolding prepare_at prepare_behind
 prepare_again count whole p rest h =
     let regrouped : prepare_bytes p ++ rest ≡ id_bytes p.id ++ (reads_bytes p.reads ++ (writes_bytes p.writes ++ rest)) =
-        append_assoc (id_bytes p.id ++ reads_bytes p.reads) (writes_bytes p.writes) rest ∙ append_assoc (id_bytes p.id) (reads_bytes p.reads) (writes_bytes p.writes ++ rest) in
+    append_assoc (id_bytes p.id ++ reads_bytes p.reads) (writes_bytes p.writes) rest ∙ append_assoc (id_bytes p.id) (reads_bytes p.reads) (writes_bytes p.writes ++ rest) in
     ap (prepare_at count whole) regrouped
-    ∙ rw (id_again count whole p.id (reads_bytes p.reads ++ (writes_bytes p.writes ++ rest)) h.named,
-        reads_again whole p.reads (writes_bytes p.writes ++ rest) h.reads, writes_again whole p.writes rest h.writes) refl
+    ∙ rw (
+      id_again count whole p.id (reads_bytes p.reads ++ (writes_bytes p.writes ++ rest)) h.named,
+      reads_again whole p.reads (writes_bytes p.writes ++ rest) h.reads,
+      writes_again whole p.writes rest h.writes,
+    ) refl
 
 end_again : (whole : ℕ) (id : TxnId) (time : ℕ) (rest : List ℕ) → id.time < time → time ≤ last_time → end_at id whole (to_be_bytes w64 time ++ rest) ≡ Ok (time, rest)
 unfolding end_at
@@ -195,7 +209,11 @@ record_again count whole (Commit id time) rest h =
     ∙ rw (byte_again (is_within 1 3) whole 2 (id_bytes id ++ (to_be_bytes w64 time ++ rest)) refl, id_again count whole id (to_be_bytes w64 time ++ rest) h.named, end_again whole id time rest h.later h.last) refl
 record_again count whole (Abort id time cause) rest h =
     let regrouped : (id_bytes id ++ to_be_bytes w64 time ++ id_bytes cause) ++ rest ≡ id_bytes id ++ (to_be_bytes w64 time ++ (id_bytes cause ++ rest)) =
-        append_assoc (id_bytes id ++ to_be_bytes w64 time) (id_bytes cause) rest ∙ append_assoc (id_bytes id) (to_be_bytes w64 time) (id_bytes cause ++ rest) in
+    append_assoc (id_bytes id ++ to_be_bytes w64 time) (id_bytes cause) rest ∙ append_assoc (id_bytes id) (to_be_bytes w64 time) (id_bytes cause ++ rest) in
     ap (record_at count whole) (ap (λ (t : List ℕ). 3 ∷ t) regrouped)
-    ∙ rw (byte_again (is_within 1 3) whole 3 (id_bytes id ++ (to_be_bytes w64 time ++ (id_bytes cause ++ rest))) refl, id_again count whole id (to_be_bytes w64 time ++ (id_bytes cause ++ rest)) h.0.named,
-        end_again whole id time (id_bytes cause ++ rest) h.0.later h.0.last, id_again count whole cause rest h.1) refl
+    ∙ rw (
+      byte_again (is_within 1 3) whole 3 (id_bytes id ++ (to_be_bytes w64 time ++ (id_bytes cause ++ rest))) refl,
+      id_again count whole id (to_be_bytes w64 time ++ (id_bytes cause ++ rest)) h.0.named,
+      end_again whole id time (id_bytes cause ++ rest) h.0.later h.0.last,
+      id_again count whole cause rest h.1,
+    ) refl

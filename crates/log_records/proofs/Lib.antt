@@ -1,3 +1,4 @@
 pub mod Fields
 pub mod Differ
 pub mod Again
+pub mod Taken

@@ -97,10 +97,10 @@ fn put_prepare(out: &mut Vec<u8>, prepare: &Prepare) -> Result<(), AllocError>
     put_writes(out, prepare.writes().items())
 }
 
-fn put_record(out: &mut Vec<u8>, record: &Record) -> Result<(), AllocError>
-    ensures { OnOk result (out.new.items ≡ out.old.items ++ record_bytes record.now) }
+fn put_record(out: &mut Vec<u8>, r: &Record) -> Result<(), AllocError>
+    ensures { OnOk result (out.new.items ≡ out.old.items ++ record_bytes r.now) }
 {
-    match record {
+    match r {
         Record::Prepare(prepare) => {
             out.push(1)?;
             put_prepare(out, prepare)?;
@@ -121,10 +121,10 @@ fn put_record(out: &mut Vec<u8>, record: &Record) -> Result<(), AllocError>
 }
 
 /// The one spelling of a record.
-pub fn encode_record(alloc: Global, record: &Record) -> Result<Bytes, AllocError>
-    ensures { IfOk result (λ bytes. bytes ≡ record_bytes record.now) }
+pub fn encode_record(alloc: Global, r: &Record) -> Result<Bytes, AllocError>
+    ensures { IfOk result (λ bytes. bytes ≡ record_bytes r.now) }
 {
     let mut out = Vec::new(alloc);
-    put_record(&mut out, record)?;
+    put_record(&mut out, r)?;
     Ok(Bytes::new(out))
 }

@@ -11,4 +11,4 @@ mod laws;
 pub use decoding::decode_record;
 pub use encoding::encode_record;
 pub use faults::DecodeFault;
-pub use laws::records_are_read_again;
+pub use laws::{records_are_read_again, what_is_read_has_a_spelling};
