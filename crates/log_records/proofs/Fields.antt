@@ -1,5 +1,7 @@
 -- Fields that were taken, and items one after another.
 use Rattle.std.proofs.Common.{◌≡◌, ℕ, zero, suc, ◌+◌, ◌-◌, ◌<◌, ◌≤◌, ◌&&◌, Bool, true, false, not, cond, ltb, List, [], ◌∷◌, ◌++◌, length, take, drop, Option, Some, None, Result, Ok, Err, refl, sym, ap, subst, ◌∙◌, arith}
+use Rattle.std.proofs.lemmas.Bool.{ltb-false}
+use Rattle.std.proofs.lemmas.List.{length-take}
 use Rattle.std.proofs.lemmas.Option.{cond_some}
 use Rattle.helios_model.specs.Spellings.{is_key, key_of}
 use Rattle.log_records.specs.declared.faults.DecodeFault.{DecodeFault}
@@ -95,3 +97,11 @@ each_fails item Cut count i before bytes total lt so_far e = sym so_far ∙ each
 each_fails item (Bad at) count i before bytes total lt so_far e = sym so_far ∙ each_refused item count i before bytes (Bad at) lt e
 each_fails item BadDigest count i before bytes total lt so_far e = sym so_far ∙ each_refused item count i before bytes BadDigest lt e
 each_fails item NoMemory count i before bytes total lt so_far e = tt
+
+-- ---- how long a text is
+
+pub text_long : (n whole : ℕ) (bytes text after : List ℕ) → text_at (λ t. true) n whole bytes ≡ Ok (text, after) → length text ≡ n
+text_long n whole bytes text after e =
+    let t = taken n whole bytes text after e in
+    let long : n ≤ length bytes = ltb-false _ _ t.0 in
+    ap length (sym t.1) ∙ omega (arith, length-take n bytes)

@@ -24,3 +24,8 @@ Takes (Err fault) read old new = Fails fault read
 abbrev pub Decodes : {X : Type 0} → List ℕ → Result (X × ℕ) DecodeFault → Result (X × List ℕ) DecodeFault → Type 0
 Decodes input (Ok x) read = (rest : List ℕ) × (read ≡ Ok (x.0, rest)) × (x.1 + length rest ≡ length input)
 Decodes input (Err fault) read = Fails fault read
+
+-- the same where the whole input is one value
+abbrev pub Gives : {X : Type 0} → Result X DecodeFault → Result X DecodeFault → Type 0
+Gives (Ok x) read = read ≡ Ok x
+Gives (Err fault) read = Fails fault read

@@ -3,4 +3,5 @@ pub mod Ids
 pub mod Keys
 pub mod Items
 pub mod Records
+pub mod Heads
 pub mod Decoding

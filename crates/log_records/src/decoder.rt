@@ -18,7 +18,7 @@ pub(crate) struct Decoder<'a> {
 }
 
 impl<'a> Decoder<'a> {
-    ghost use Rattle.std.specs.Prelude.{◌&&◌, not, nat_lt, nat_le, true};
+    ghost use Rattle.std.specs.Prelude.{◌&&◌, ◌==◌, not, nat_lt, nat_le, true};
     ghost use Rattle.std.specs.Int.{w16, w64};
     ghost use Rattle.helios_model.specs.Spellings.{is_key};
     ghost use Rattle.helios_model.specs.Limits.{most_sites, most_value_bytes};
@@ -45,6 +45,13 @@ impl<'a> Decoder<'a> {
         self.whole - self.rest.len()
     }
 
+    /// Whether nothing is left.
+    pub(crate) fn is_done(&self) -> bool
+        ensures { result ≡ (length self.now.rest.now == 0) }
+    {
+        self.rest.is_empty()
+    }
+
     /// One byte, from the least to the most.
     #[tactic(auto, unfolding(crate::specs::Fields::byte_at))]
     pub(crate) fn byte(&mut self, least: u8, most: u8) -> Result<u8, DecodeFault>
@@ -65,7 +72,7 @@ impl<'a> Decoder<'a> {
 
     /// One of so many sites.
     #[tactic(auto, unfolding(crate::specs::Fields::byte_at))]
-    fn site(&mut self, count: u8) -> Result<SiteId, DecodeFault>
+    pub(crate) fn site(&mut self, count: u8) -> Result<SiteId, DecodeFault>
         requires { count ≤ most_sites }
         ensures { Takes result (byte_at (λ b. nat_lt b count) self.old.whole self.old.rest.now) self.old self.new }
     {
@@ -120,7 +127,7 @@ impl<'a> Decoder<'a> {
 
     /// So many bytes as they are.
     #[tactic(auto, unfolding(crate::specs::Fields::text_at))]
-    fn text(&mut self, length: usize) -> Result<&'a [u8], DecodeFault>
+    pub(crate) fn text(&mut self, length: usize) -> Result<&'a [u8], DecodeFault>
         ensures { TakesAs (λ t. t.now) result (text_at (λ text. true) length self.old.whole self.old.rest.now) self.old self.new }
     {
         if self.rest.len() < length {
