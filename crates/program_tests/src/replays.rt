@@ -8,11 +8,11 @@ use std::alloc::{AllocError, Global};
 use std::test::Fail;
 
 /// One site.
-const ALONE: &str =
+pub(crate) const ALONE: &str =
     r#"{"latency":[0],"names":["A"],"offset":[[0]],"pair":[0],"rtt":[[0]],"total":0,"version":1}"#;
 
 /// Two sites, 100 microseconds from each other, that wait equally long.
-const EVEN: &str =
+pub(crate) const EVEN: &str =
     r#"{"latency":[100,100],"names":["A","B"],"offset":[[0,0],[0,0]],"pair":[1,0],"rtt":[[0,100],[100,0]],"total":200,"version":1}"#;
 
 /// The same two sites; the first commits at once up to 100 half microseconds ahead.

@@ -1,4 +1,5 @@
 // The greatest cluster, batch and schedule that the limits allow, through `run`.
+use crate::replays::{ALONE, EVEN};
 use crate::runs::run_in_room;
 use std::alloc::{AllocError, Global};
 use std::test::Fail;
@@ -104,5 +105,59 @@ fn the_greatest_matrix_is_planned(rt: HostRuntime) -> Result<(), Fail> {
     )?;
     assert_eq!(rt; judged.status, 0);
     assert_eq!(rt; judged.written.as_slice(), b"optimal 0\n".as_slice());
+    Ok(())
+}
+
+/// A schedule of so many requests at site 0 and this reading, each of which writes a key of its own.
+fn requests(alloc: Global, plan: &str, reading: u64, count: u32) -> Result<Vec<u8>, AllocError> {
+    let mut text = format!(in alloc; "{{\"plan\":{plan},\"steps\":[")?;
+    for number in 0..count {
+        if number > 0 {
+            text.push(',')?;
+        }
+        let step = format!(in alloc;
+            "{{\"site\":0,\"inputs\":[{{\"at\":{reading},\"reads\":[],\"writes\":[[\"k{number}\",\"\"]]}}]}}"
+        )?;
+        text.push_str(step.as_str())?;
+    }
+    text.push_str("]}")?;
+    Ok(text.into_bytes())
+}
+
+#[test]
+fn a_site_ends_with_its_clock(rt: HostRuntime) -> Result<(), Fail> {
+    let input = requests(rt.alloc(), ALONE, u64::MAX, 65_538)?;
+    let got = run_in_room(
+        rt.alloc(),
+        &["replay"],
+        input,
+        (10_000_000, 65_536),
+        &[],
+        &[],
+    )?;
+    let begin = "0 0 committed 0@4611686018427125760\n1 0 committed 0@4611686018427125762\n";
+    let end =
+        "\ncommit 0@4611686018427256832\nsite 0 time 4611686018427256833 log 131074 pending 0\n";
+    assert_eq!(rt; got.status, 0);
+    assert!(rt; got.written.as_slice().starts_with(begin.as_bytes()));
+    assert!(rt; got.written.as_slice().ends_with(end.as_bytes()));
+    Ok(())
+}
+
+#[test]
+fn a_site_has_no_more_open_transactions_than_it_may(rt: HostRuntime) -> Result<(), Fail> {
+    let input = requests(rt.alloc(), EVEN, 0, 65_537)?;
+    let got = run_in_room(
+        rt.alloc(),
+        &["replay"],
+        input,
+        (10_000_000, 65_536),
+        &[],
+        &[],
+    )?;
+    let end =
+        "\n65535 0 prepared 0@65536\n65536 0 pool-full\nsite 0 time 65536 log 65536 pending 65536\nsite 1 time 0 log 0 pending 0\n";
+    assert_eq!(rt; got.status, 0);
+    assert!(rt; got.written.as_slice().ends_with(end.as_bytes()));
     Ok(())
 }
