@@ -1,4 +1,4 @@
-//! Tests of the data of the protocol and of the crates that read, plan, judge and print, by their public calls alone.
+//! Tests of the crates that read, plan, judge and print, by their public calls.
 #![tactic(auto)]
 
 #[cfg(test)]
@@ -6,10 +6,6 @@ use std::alloc::{AllocError, Global};
 #[cfg(test)]
 use std::fmt::Display;
 
-#[cfg(test)]
-mod copies;
-#[cfg(test)]
-mod json_texts;
 #[cfg(test)]
 mod matrix_texts;
 #[cfg(test)]

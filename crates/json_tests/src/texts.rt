@@ -1,7 +1,7 @@
 // The readers that all texts share: what each gives with ample memory, and where each refuses.
 ghost use Rattle.json_text.specs.Arrays.{whole_number};
 ghost use Rattle.json_text.specs.Reading.{required};
-ghost use Rattle.plan_tests.specs.declared.json_texts.Told.TheVariants.{Bad, NoMemory};
+ghost use Rattle.json_tests.specs.declared.texts.Told.TheVariants.{Bad, NoMemory};
 
 use json_text::{
     ItemReader, KeyReader, NamedVersion, PutReader, ReadReader, Refusal, Unread, id, is_row,
