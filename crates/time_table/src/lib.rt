@@ -1,7 +1,8 @@
 //! The table of times of a site: up to when each site knows each other one, as far as this site knows.
 #![tactic(auto)]
 
-ghost use Rattle.std.specs.Prelude.{◌≡◌, ◌+◌, ◌*◌, ◌/◌, ◌%◌, ◌<◌, IfOk, length, max, slice_set};
+ghost use Rattle.std.specs.Prelude.{◌≡◌, ◌+◌, ◌*◌, ◌/◌, ◌%◌, ◌<◌, IfOk, length, max, nat_le, slice_set};
+ghost use Rattle.std.specs.List.{list_all, range_with_len};
 ghost use Rattle.helios_model.specs.Exchange.{merged_at};
 ghost use Rattle.time_table.specs.Table.{first_table, merged_with, raised, time_at};
 
@@ -63,6 +64,23 @@ impl TimeTable {
         ensures { result ≡ time_at self.now row column }
     {
         Time::of(self.times.items()[self.place(row, column)])
+    }
+
+    /// Whether every site is known to know the origin up to this time. It ends at the first that is not.
+    pub fn all_know(&self, origin: SiteId, time: Time) -> bool
+        requires { origin < self.now.count }
+        ensures { result ≡ list_all (λ j. nat_le time (time_at self.now j origin)) (range_with_len 0 self.now.count) }
+    {
+        (0..self.count).all(|j| self.knows(j, origin, time))
+    }
+
+    fn knows(&self, row: u8, origin: SiteId, time: Time) -> bool
+        requires row { row < self.now.count }
+        requires origin { origin < self.now.count }
+        ensures { result ≡ nat_le time (time_at self.now row origin) }
+    {
+        let place = row as usize * self.count as usize + origin.number() as usize;
+        time.half_micros() <= self.times.items()[place]
     }
 
     /// Takes the greater of a time and the one that stands there.
