@@ -3,3 +3,4 @@ pub mod Counting
 pub mod Printed
 pub mod ReadAgain
 pub mod Rows
+pub mod Fingerprinted

@@ -9,11 +9,11 @@ use Rattle.serde_json.specs.View.{items_of}
 use Rattle.serde_json.specs.Written.{has_float, items_have_float}
 use Rattle.commit_offsets.specs.Printing.{whole, signed, array_data, row_data, square_data, members_data, plan_data}
 
-neither : (b c : Bool) → b ≡ false → c ≡ false → (b || c) ≡ false
+pub neither : (b c : Bool) → b ≡ false → c ≡ false → (b || c) ≡ false
 neither true c first second = cc
 neither false c first second = second
 
-items_float : {X : Type 0} (f : X → Data) → ((x : X) → has_float (f x) ≡ false) → (xs : List X) → items_have_float (items_of (map f xs)) ≡ false
+pub items_float : {X : Type 0} (f : X → Data) → ((x : X) → has_float (f x) ≡ false) → (xs : List X) → items_have_float (items_of (map f xs)) ≡ false
 items_float f none [] = refl
 items_float f none (x ∷ xs) = neither (has_float (f x)) (items_have_float (items_of (map f xs))) (none x) (items_float f none xs)
 
@@ -21,7 +21,7 @@ signed_float : (z : ℤ) → has_float (signed z) ≡ false
 signed_float (pos n) = refl
 signed_float (negsuc n) = refl
 
-square_float : (n : ℕ) (f : ℕ → ℕ → Data) → ((i j : ℕ) → has_float (f i j) ≡ false) → has_float (square_data n f) ≡ false
+pub square_float : (n : ℕ) (f : ℕ → ℕ → Data) → ((i j : ℕ) → has_float (f i j) ≡ false) → has_float (square_data n f) ≡ false
 square_float n f none = items_float (λ i. row_data n (f i)) (λ i. items_float (f i) (none i) (range_with_len 0 n)) (range_with_len 0 n)
 
 members_float : (latency names offsets pair trips total : Data) → has_float latency ≡ false → has_float names ≡ false → has_float offsets ≡ false → has_float pair ≡ false → has_float trips ≡ false → has_float total ≡ false → has_float (members_data latency names offsets pair trips total) ≡ false

@@ -2,3 +2,4 @@ pub mod Forms
 pub mod Lines
 pub mod Printing
 pub mod Reading
+pub mod Fingerprint

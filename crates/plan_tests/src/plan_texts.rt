@@ -1,5 +1,5 @@
 use crate::line_of;
-use commit_offsets::{offset, print_plan, read_plan};
+use commit_offsets::{fingerprint, offset, print_plan, read_plan};
 use helios_model::SiteId;
 use std::test::Fail;
 
@@ -138,5 +138,19 @@ fn what_is_printed_is_the_text_that_was_read(rt: HostRuntime) -> Result<(), Fail
         let line = format!(in rt.alloc(); "{text}\n")?;
         assert_eq!(rt; printed.items(), line.as_bytes(), "at {text}");
     }
+    Ok(())
+}
+
+// The digest of the latencies, names and round trips of three sites, as another program told it of the text
+// {"latency":[10000,50000,30000],"names":["A","B","C"],"rtt":[[0,30000,20000],[30000,0,40000],[20000,40000,0]]}
+const THREE_FINGERPRINT: [u8; 32] = [
+    15, 5, 151, 174, 65, 203, 108, 98, 183, 41, 72, 166, 78, 170, 122, 233, 51, 115, 183, 140, 251,
+    124, 69, 152, 1, 187, 244, 214, 113, 107, 238, 170,
+];
+
+#[test]
+fn a_fingerprint_is_the_digest_of_the_canonical_text(rt: HostRuntime) -> Result<(), Fail> {
+    let (plan, _certificate) = read_plan(rt.alloc(), THREE.as_bytes())?;
+    assert_eq!(rt; fingerprint(rt.alloc(), &plan)?, THREE_FINGERPRINT);
     Ok(())
 }
