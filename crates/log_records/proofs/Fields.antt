@@ -1,5 +1,5 @@
 -- Fields that were taken, and items one after another.
-use Rattle.std.proofs.Common.{◌≡◌, ℕ, zero, suc, ◌+◌, ◌-◌, ◌<◌, ◌≤◌, ◌&&◌, Bool, true, false, not, cond, ltb, List, [], ◌∷◌, ◌++◌, length, take, drop, Option, Some, None, Result, Ok, Err, refl, sym, ap, subst, ◌∙◌, arith}
+use Rattle.std.proofs.Common.{◌≡◌, ℕ, suc, ◌+◌, ◌-◌, ◌<◌, ◌≤◌, ◌&&◌, Bool, true, false, not, cond, ltb, List, [], ◌∷◌, ◌++◌, length, take, drop, Some, None, Result, Ok, Err, refl, sym, ap, ◌∙◌, arith}
 use Rattle.std.proofs.lemmas.Bool.{ltb-false}
 use Rattle.std.proofs.lemmas.List.{length-take}
 use Rattle.std.proofs.lemmas.Option.{cond_some}
@@ -83,6 +83,13 @@ each_done item count i before bytes le =
 err_kept : {A B : Type 0} (r : Result A DecodeFault) (next : A → Result B DecodeFault) (fault : DecodeFault) → r ≡ Err fault → (r >>= next) ≡ Err fault
 err_kept (Ok x) next fault e = absurd cc
 err_kept (Err other) next fault e = cc
+
+-- what fails at a field fails with what would have come of it
+pub fails_then : {A B : Type 0} (r : Result A DecodeFault) (next : A → Result B DecodeFault) (fault : DecodeFault) → Fails fault r → Fails fault (r >>= next)
+fails_then r next Cut e = err_kept r next Cut e
+fails_then r next (Bad at) e = err_kept r next (Bad at) e
+fails_then r next BadDigest e = err_kept r next BadDigest e
+fails_then r next NoMemory e = tt
 
 each_refused : {X : Type 0} (item : List X → List ℕ → Result (X × List ℕ) DecodeFault) (count i : ℕ) (before : List X) (bytes : List ℕ) (fault : DecodeFault) → i < count → item before bytes ≡ Err fault
     → each_after item (count - i) before bytes ≡ Err fault

@@ -3,3 +3,10 @@ pub mod Differ
 pub mod Again
 pub mod Taken
 pub mod HeadFields
+pub mod MessageTaken
+pub mod MessageAgain
+pub mod SpellingLengths
+pub mod MessageFields
+pub mod Asked
+pub mod EntryAgain
+pub mod EntryTaken

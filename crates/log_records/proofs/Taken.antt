@@ -1,5 +1,5 @@
 -- What was read has a spelling, and that spelling begins the input.
-use Rattle.std.proofs.Common.{◌≡◌, ℕ, zero, suc, ◌+◌, ◌-◌, ◌^◌, ◌<◌, ◌≤◌, ◌==◌, ◌&&◌, Bool, true, false, cond, not, ltb, leb, List, [], ◌∷◌, ◌++◌, length, get_or, take, drop, All, Result, Ok, Err, refl, sym, ap, subst, ◌∙◌, append_assoc, arith, inl, inr, length-append, nat_lt}
+use Rattle.std.proofs.Common.{◌≡◌, ℕ, zero, suc, ◌+◌, ◌-◌, ◌^◌, ◌<◌, ◌≤◌, ◌==◌, ◌&&◌, Bool, true, cond, not, ltb, List, [], ◌∷◌, ◌++◌, length, get_or, take, drop, All, Result, Ok, refl, sym, ap, subst, ◌∙◌, append_assoc, arith, inl, inr, nat_lt}
 use Rattle.std.specs.List.{flat_map}
 use Rattle.std.specs.Int.{Width, w16, w64, byte_len, from_be_bytes, to_be_bytes}
 use Rattle.std.proofs.lemmas.Bool.{cases_lt, ltb-false, ltb-true}
@@ -15,7 +15,7 @@ use Rattle.helios_model.specs.declared.transactions.WriteItem.{WriteItem}
 use Rattle.helios_model.specs.declared.records.Record.{Record}
 use Rattle.helios_model.specs.declared.records.Record.TheVariants.{Prepare, Commit, Abort}
 use Rattle.helios_model.specs.Limits.{last_time, most_items, most_key_bytes, most_sites, most_value_bytes}
-use Rattle.helios_model.specs.Spellable.{IsSpellableId, IsSpellableVersion, AreSpellableReads, AreSpellableWrites, IsSpellablePrepare, IsSpellableRecord}
+use Rattle.helios_model.specs.Spellable.{IsSpellableId, IsSpellableVersion, AreSpellableReads, AreSpellableWrites, IsSpellableRecord}
 use Rattle.helios_model.specs.Spellings.{is_key}
 use Rattle.helios_model.specs.Texts.{IsKey, IsValue}
 use Rattle.helios_model.specs.Transactions.{Transaction}
@@ -27,7 +27,7 @@ use Rattle.log_records.specs.Keys.{key_bytes, key_at, value_bytes, value_at}
 use Rattle.log_records.specs.Items.{is_given, list_bytes, list_at, read_bytes, read_at, reads_bytes, reads_at, write_bytes, write_at, writes_bytes, writes_at}
 use Rattle.log_records.specs.Records.{prepare_bytes, record_bytes, prepare_behind, end_at, prepare_at, commit_at, abort_at, record_at}
 use Rattle.log_records.proofs.Fields.{ruled_ok}
-use Rattle.log_records.proofs.Differ.{bind_ok, ok_is, and_true, within, byte_ruled, IsFresh, each_keeps, list_keeps, read_fresh, write_fresh}
+use Rattle.log_records.proofs.Differ.{bind_ok, ok_is, and_true, within, byte_ruled, list_keeps, read_fresh, write_fresh}
 use Rattle.log_records.proofs.Again.{key_from_test, ReadFits, WriteFits}
 
 abbrev pub AreBytes : List ℕ → Type 0
@@ -53,22 +53,22 @@ Begins-then a x b y c p q = record { parts = p.parts ∙ ap (λ (t : List ℕ). 
 
 -- ---- fields
 
-byte_taken : (rule : ℕ → Bool) (whole : ℕ) (bytes : List ℕ) (y : ℕ × List ℕ) → AreBytes bytes → byte_at rule whole bytes ≡ Ok y → Begins bytes (y.0 ∷ []) y.1 × (rule y.0 ≡ true)
+pub byte_taken : (rule : ℕ → Bool) (whole : ℕ) (bytes : List ℕ) (y : ℕ × List ℕ) → AreBytes bytes → byte_at rule whole bytes ≡ Ok y → Begins bytes (y.0 ∷ []) y.1 × (rule y.0 ≡ true)
 byte_taken rule whole bytes y h e =
     let r = byte_ruled rule whole bytes y e in
     let front : AreBytes (y.0 ∷ y.1) = subst AreBytes r.1 h in
     (record { parts = r.1; left = λ i. front (suc i) }, r.0)
 
-record IsWide (w : Width) (limit : ℕ) : Type 0 where
-  back : (bytes : List ℕ) → length bytes ≡ byte_len w → AreBytes bytes → to_be_bytes w (from_be_bytes w bytes) ≡ bytes
+pub record IsWide (w : Width) (limit : ℕ) : Type 0 where
+  pub back : (bytes : List ℕ) → length bytes ≡ byte_len w → AreBytes bytes → to_be_bytes w (from_be_bytes w bytes) ≡ bytes
 
 wide16 : IsWide w16 (2 ^ 16)
 wide16 = record { back = λ bytes len h. be_bytes_2 bytes _ len h refl }
 
-wide64 : IsWide w64 (2 ^ 64)
+pub wide64 : IsWide w64 (2 ^ 64)
 wide64 = record { back = λ bytes len h. be_bytes_8 bytes _ len h refl }
 
-number_taken : (w : Width) (limit : ℕ) (wide : IsWide w limit) (rule : ℕ → Bool) (whole : ℕ) (bytes : List ℕ) (y : ℕ × List ℕ) → AreBytes bytes → number_at w rule whole bytes ≡ Ok y → Begins bytes (to_be_bytes w y.0) y.1 × (rule y.0 ≡ true)
+pub number_taken : (w : Width) (limit : ℕ) (wide : IsWide w limit) (rule : ℕ → Bool) (whole : ℕ) (bytes : List ℕ) (y : ℕ × List ℕ) → AreBytes bytes → number_at w rule whole bytes ≡ Ok y → Begins bytes (to_be_bytes w y.0) y.1 × (rule y.0 ≡ true)
 unfolding number_at
 number_taken w limit wide rule whole bytes y h e =
     let front = take (byte_len w) bytes in
@@ -80,12 +80,12 @@ number_taken w limit wide rule whole bytes y h e =
     subst (λ (p : ℕ × List ℕ). Begins bytes (to_be_bytes w p.0) p.1 × (rule p.0 ≡ true)) t.2 (record { parts = parts; left = AreBytes-drop (byte_len w) bytes h }, t.1)
 
 -- so many bytes were taken, which their rule accepts
-record IsText (rule : List ℕ → Bool) (n : ℕ) (bytes : List ℕ) (y : List ℕ × List ℕ) : Type 0 where
-  begins : Begins bytes y.0 y.1
-  ruled : rule y.0 ≡ true
-  long : length y.0 ≡ n
+pub record IsText (rule : List ℕ → Bool) (n : ℕ) (bytes : List ℕ) (y : List ℕ × List ℕ) : Type 0 where
+  pub begins : Begins bytes y.0 y.1
+  pub ruled : rule y.0 ≡ true
+  pub long : length y.0 ≡ n
 
-text_taken : (rule : List ℕ → Bool) (n whole : ℕ) (bytes : List ℕ) (y : List ℕ × List ℕ) → AreBytes bytes → text_at rule n whole bytes ≡ Ok y → IsText rule n bytes y
+pub text_taken : (rule : List ℕ → Bool) (n whole : ℕ) (bytes : List ℕ) (y : List ℕ × List ℕ) → AreBytes bytes → text_at rule n whole bytes ≡ Ok y → IsText rule n bytes y
 unfolding text_at
 text_taken rule n whole bytes y h e =
     let made : List ℕ × List ℕ = (take n bytes, drop n bytes) in
@@ -128,7 +128,7 @@ version_taken whole bytes y h e =
 
 -- ---- keys and values
 
-key_taken : (given : List ℕ → Bool) (whole : ℕ) (bytes : List ℕ) (y : List ℕ × List ℕ) → AreBytes bytes → key_at given whole bytes ≡ Ok y → Begins bytes (key_bytes y.0) y.1 × IsKey y.0
+pub key_taken : (given : List ℕ → Bool) (whole : ℕ) (bytes : List ℕ) (y : List ℕ × List ℕ) → AreBytes bytes → key_at given whole bytes ≡ Ok y → Begins bytes (key_bytes y.0) y.1 × IsKey y.0
 unfolding key_at
 key_taken given whole bytes y h e =
     let a = bind_ok (byte_at (is_within 1 most_key_bytes) whole bytes) (λ n. text_at (λ k. is_key k && not (given k)) n.0 whole n.1) y e in
@@ -137,7 +137,7 @@ key_taken given whole bytes y h e =
     let both = Begins-then bytes (a.0.0 ∷ []) a.0.1 y.0 y.1 s.0 t.begins in
     (subst (λ (n : ℕ). Begins bytes (n ∷ y.0) y.1) (sym t.long) both, key_from_test y.0 (and_true (is_key y.0) (not (given y.0)) t.ruled).0)
 
-value_taken : (whole : ℕ) (bytes : List ℕ) (y : List ℕ × List ℕ) → AreBytes bytes → value_at whole bytes ≡ Ok y → Begins bytes (value_bytes y.0) y.1 × IsValue y.0
+pub value_taken : (whole : ℕ) (bytes : List ℕ) (y : List ℕ × List ℕ) → AreBytes bytes → value_at whole bytes ≡ Ok y → Begins bytes (value_bytes y.0) y.1 × IsValue y.0
 unfolding value_at
 value_taken whole bytes y h e =
     let a = bind_ok (number_at w16 (is_within 0 most_value_bytes) whole bytes) (λ n. text_at (λ value. true) n.0 whole n.1) y e in
@@ -150,17 +150,17 @@ value_taken whole bytes y h e =
 -- ---- lists
 
 -- so many items that fit stand behind those before
-record Follow {X : Type 0} (spelled : X → List ℕ) (Fits : X → Type 0) (n : ℕ) (before : List X) (bytes : List ℕ) (y : List X × List ℕ) : Type 0 where
-  items : List X
-  are : y.0 ≡ before ++ items
-  many : length items ≡ n
-  fit : All Fits items
-  begins : Begins bytes (flat_map spelled items) y.1
+pub record Follow {X : Type 0} (spelled : X → List ℕ) (Fits : X → Type 0) (n : ℕ) (before : List X) (bytes : List ℕ) (y : List X × List ℕ) : Type 0 where
+  pub items : List X
+  pub are : y.0 ≡ before ++ items
+  pub many : length items ≡ n
+  pub fit : All Fits items
+  pub begins : Begins bytes (flat_map spelled items) y.1
 
-abbrev IsTaken : {X : Type 0} → (X → List ℕ) → (X → Type 0) → (List X → List ℕ → Result (X × List ℕ) DecodeFault) → Type 0
+abbrev pub IsTaken : {X : Type 0} → (X → List ℕ) → (X → Type 0) → (List X → List ℕ → Result (X × List ℕ) DecodeFault) → Type 0
 IsTaken {X} spelled Fits item = (before : List X) (bytes : List ℕ) (y : X × List ℕ) → AreBytes bytes → item before bytes ≡ Ok y → Begins bytes (spelled y.0) y.1 × Fits y.0
 
-each_taken : {X : Type 0} (spelled : X → List ℕ) (Fits : X → Type 0) (item : List X → List ℕ → Result (X × List ℕ) DecodeFault) → IsTaken spelled Fits item → (n : ℕ) (before : List X) (bytes : List ℕ) (y : List X × List ℕ) → AreBytes bytes
+pub each_taken : {X : Type 0} (spelled : X → List ℕ) (Fits : X → Type 0) (item : List X → List ℕ → Result (X × List ℕ) DecodeFault) → IsTaken spelled Fits item → (n : ℕ) (before : List X) (bytes : List ℕ) (y : List X × List ℕ) → AreBytes bytes
     → each_after item n before bytes ≡ Ok y → Follow spelled Fits n before bytes y
 unfolding each_after
 each_taken {X} spelled Fits item taken zero before bytes y h e =
@@ -180,7 +180,7 @@ each_taken {X} spelled Fits item taken (suc n) before bytes y h e =
       begins = rw flat_map-cons both;
     }
 
-list_taken : {X : Type 0} (spelled : X → List ℕ) (Fits : X → Type 0) (item : List X → List ℕ → Result (X × List ℕ) DecodeFault) → IsTaken spelled Fits item → (whole : ℕ) (bytes : List ℕ) (y : List X × List ℕ) → AreBytes bytes
+pub list_taken : {X : Type 0} (spelled : X → List ℕ) (Fits : X → Type 0) (item : List X → List ℕ → Result (X × List ℕ) DecodeFault) → IsTaken spelled Fits item → (whole : ℕ) (bytes : List ℕ) (y : List X × List ℕ) → AreBytes bytes
     → list_at item whole bytes ≡ Ok y → Begins bytes (list_bytes spelled y.0) y.1 × All Fits y.0
 list_taken {X} spelled Fits item taken whole bytes y h e =
     let a = bind_ok (byte_at (is_within 0 most_items) whole bytes) (λ n. each_after item n.0 [] n.1) y e in
@@ -201,7 +201,7 @@ read_taken whole before bytes y h e =
     let made : ReadItem × List ℕ = (record { key = a.0.0; version = b.0.0 }, b.0.1) in
     subst (λ (p : ReadItem × List ℕ). Begins bytes (read_bytes p.0) p.1 × ReadFits p.0) (ok_is made y b.2) (Begins-then bytes (key_bytes a.0.0) a.0.1 (version_bytes b.0.0) b.0.1 k.0 v.0, (k.1, v.1))
 
-reads_taken : (whole : ℕ) (bytes : List ℕ) (y : List ReadItem × List ℕ) → AreBytes bytes → reads_at whole bytes ≡ Ok y → Begins bytes (reads_bytes y.0) y.1 × AreSpellableReads y.0
+pub reads_taken : (whole : ℕ) (bytes : List ℕ) (y : List ReadItem × List ℕ) → AreBytes bytes → reads_at whole bytes ≡ Ok y → Begins bytes (reads_bytes y.0) y.1 × AreSpellableReads y.0
 unfolding reads_at
 reads_taken whole bytes y h e =
     let t = list_taken read_bytes ReadFits (read_at whole) (read_taken whole) whole bytes y h e in
@@ -256,7 +256,7 @@ prepare_behind_taken id whole bytes y h e =
     subst (λ (p : Transaction × List ℕ). Begins bytes (reads_bytes p.0.reads ++ writes_bytes p.0.writes) p.1 × (p.0.id ≡ id) × AreSpellableReads p.0.reads × AreSpellableWrites p.0.writes) (ok_is made y b.2)
     (Begins-then bytes (reads_bytes a.0.0) a.0.1 (writes_bytes b.0.0) b.0.1 r.0 w.0, refl, r.1, w.1)
 
-tagged : (tag : ℕ) (bytes text rest : List ℕ) → Begins bytes text rest → Begins (tag ∷ bytes) (tag ∷ text) rest
+pub tagged : (tag : ℕ) (bytes text rest : List ℕ) → Begins bytes text rest → Begins (tag ∷ bytes) (tag ∷ text) rest
 tagged tag bytes text rest p = record { parts = ap (λ (t : List ℕ). tag ∷ t) p.parts; left = p.left }
 
 prepare_taken : (count whole : ℕ) (bytes : List ℕ) (y : Record × List ℕ) → AreBytes bytes → prepare_at count whole bytes ≡ Ok y → IsBehind count 1 bytes y
@@ -309,7 +309,7 @@ record_by_tag count whole bytes (suc (suc zero)) after y s least most e = commit
 record_by_tag count whole bytes (suc (suc (suc zero))) after y s least most e = abort_taken count whole after y s.left e
 record_by_tag count whole bytes (suc (suc (suc (suc tag)))) after y s least most e = absurd (omega (arith, most))
 
-record_begins : (count whole : ℕ) (bytes : List ℕ) (y : Record × List ℕ) → AreBytes bytes → record_at count whole bytes ≡ Ok y → Begins bytes (record_bytes y.0) y.1 × IsSpellableRecord count y.0
+pub record_begins : (count whole : ℕ) (bytes : List ℕ) (y : Record × List ℕ) → AreBytes bytes → record_at count whole bytes ≡ Ok y → Begins bytes (record_bytes y.0) y.1 × IsSpellableRecord count y.0
 unfolding record_at
 record_begins count whole bytes y h e =
     let a = bind_ok (byte_at (is_within 1 3) whole bytes) (λ tag. cond (tag.0 == 1) (prepare_at count whole tag.1) (cond (tag.0 == 2) (commit_at count whole tag.1) (abort_at count whole tag.1))) y e in
@@ -318,7 +318,7 @@ record_begins count whole bytes y h e =
     let r = record_by_tag count whole bytes a.0.0 a.0.1 y s.0 lim.0 lim.1 a.2 in
     (record { parts = s.0.parts ∙ r.0.parts; left = r.0.left }, r.1)
 
-are_bytes : (bytes : List ℕ) → All (λ b. b < 256) bytes → AreBytes bytes
+pub are_bytes : (bytes : List ℕ) → All (λ b. b < 256) bytes → AreBytes bytes
 are_bytes bytes h i = elim (cases_lt i (length bytes)) [ inl lt ↦ h i 0 lt | inr le ↦ rw (get_or_past bytes i 0 le) (omega arith) ]
 
 pub record_taken : (count whole : ℕ) (bytes : List ℕ) (r : Record) (rest : List ℕ) → All (λ b. b < 256) bytes → record_at count whole bytes ≡ Ok (r, rest) → IsSpellableRecord count r × (bytes ≡ record_bytes r ++ rest)

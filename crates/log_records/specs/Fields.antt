@@ -1,6 +1,6 @@
 -- Fields, taken from left to right. One that the input ends in is cut; one that its rule refuses is bad at its first byte, whose
 -- place is counted from the front of the whole input: of so many bytes it is the place from which on `bytes` are left.
-use Rattle.std.specs.Prelude.{◌≡◌, ℕ, zero, suc, ◌-◌, ◌&&◌, Bool, List, [], ◌∷◌, ◌++◌, length, take, drop, Result, Ok, Err, nat_le, nat_lt, if◌then◌else◌}
+use Rattle.std.specs.Prelude.{ℕ, zero, suc, ◌-◌, ◌&&◌, Bool, List, [], ◌∷◌, ◌++◌, length, take, drop, Result, Ok, Err, nat_le, nat_lt, if◌then◌else◌}
 use Rattle.std.specs.Int.{Width, byte_len, from_be_bytes}
 use Rattle.log_records.specs.declared.faults.DecodeFault.{DecodeFault}
 use Rattle.log_records.specs.declared.faults.DecodeFault.TheVariants.{Cut, Bad}

@@ -5,3 +5,5 @@ pub mod Items
 pub mod Records
 pub mod Heads
 pub mod Decoding
+pub mod Messages
+pub mod Entries

@@ -38,6 +38,13 @@ impl<'a> Decoder<'a> {
         }
     }
 
+    /// What is left.
+    pub(crate) fn rest(&self) -> &'a [u8]
+        ensures { result.now ≡ self.now.rest.now }
+    {
+        self.rest
+    }
+
     /// How many bytes were taken.
     pub(crate) fn place(&self) -> usize
         ensures { result ≡ self.now.whole - length self.now.rest.now }
@@ -50,6 +57,17 @@ impl<'a> Decoder<'a> {
         ensures { result ≡ (length self.now.rest.now == 0) }
     {
         self.rest.is_empty()
+    }
+
+    /// The same place of the same input.
+    pub(crate) fn ahead(&self) -> Decoder<'a>
+        ensures rest { result.rest.now ≡ self.now.rest.now }
+        ensures whole { result.whole ≡ self.now.whole }
+    {
+        Decoder {
+            rest: self.rest,
+            whole: self.whole,
+        }
     }
 
     /// One byte, from the least to the most.

@@ -35,7 +35,7 @@ impl Decoder<'_> {
     }
 
     #[tactic(auto, unfolding(crate::specs::Items::reads_at))]
-    fn reads(&mut self, alloc: Global) -> Result<Reads, DecodeFault>
+    pub(crate) fn reads(&mut self, alloc: Global) -> Result<Reads, DecodeFault>
         ensures { Takes result (reads_at self.old.whole self.old.rest.now) self.old self.new }
     {
         let count = self.byte(0, MOST_ITEMS as u8)?;

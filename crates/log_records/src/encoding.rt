@@ -36,7 +36,7 @@ fn put_version(out: &mut Vec<u8>, version: Version) -> Result<(), AllocError>
     Ok(())
 }
 
-fn put_key(out: &mut Vec<u8>, key: &Key) -> Result<(), AllocError>
+pub(crate) fn put_key(out: &mut Vec<u8>, key: &Key) -> Result<(), AllocError>
     ensures { OnOk result (out.new.items ≡ out.old.items ++ key_bytes key.now) }
 {
     let bytes = key.items();
@@ -44,7 +44,7 @@ fn put_key(out: &mut Vec<u8>, key: &Key) -> Result<(), AllocError>
     out.extend_from_slice(bytes)
 }
 
-fn put_value(out: &mut Vec<u8>, value: &Val) -> Result<(), AllocError>
+pub(crate) fn put_value(out: &mut Vec<u8>, value: &Val) -> Result<(), AllocError>
     ensures { OnOk result (out.new.items ≡ out.old.items ++ value_bytes value.now) }
 {
     let bytes = value.items();
@@ -59,7 +59,7 @@ fn put_read(out: &mut Vec<u8>, read: &ReadItem) -> Result<(), AllocError>
     put_version(out, read.version)
 }
 
-fn put_reads(out: &mut Vec<u8>, reads: &[ReadItem]) -> Result<(), AllocError>
+pub(crate) fn put_reads(out: &mut Vec<u8>, reads: &[ReadItem]) -> Result<(), AllocError>
     requires { length reads.now ≤ most_items }
     ensures { OnOk result (out.new.items ≡ out.old.items ++ reads_bytes reads.now) }
 {
@@ -97,7 +97,7 @@ fn put_prepare(out: &mut Vec<u8>, prepare: &Prepare) -> Result<(), AllocError>
     put_writes(out, prepare.writes().items())
 }
 
-fn put_record(out: &mut Vec<u8>, r: &Record) -> Result<(), AllocError>
+pub(crate) fn put_record(out: &mut Vec<u8>, r: &Record) -> Result<(), AllocError>
     ensures { OnOk result (out.new.items ≡ out.old.items ++ record_bytes r.now) }
 {
     match r {

@@ -1,9 +1,13 @@
 //! What holds of the spellings themselves.
-ghost use Rattle.std.specs.Prelude.{◌≡◌, ◌<◌, ◌++◌, ℕ, List, All};
+ghost use Rattle.std.specs.Prelude.{◌≡◌, ◌<◌, ◌++◌, ℕ, List, [], All};
 ghost use Rattle.helios_model.specs.declared.records.Record.{Record};
-ghost use Rattle.helios_model.specs.Spellable.{IsSpellableRecord};
+ghost use Rattle.helios_model.specs.declared.entries.Entry.{Entry};
+ghost use Rattle.helios_model.specs.declared.messages.Message.{Message};
+ghost use Rattle.helios_model.specs.Spellable.{IsSpellableEntry, IsSpellableMessage, IsSpellableRecord};
 ghost use Rattle.log_records.specs.declared.heads.Head.{Head};
+ghost use Rattle.log_records.specs.Entries.{IsSpellableBatch, IsWritable, batch_bytes, batch_of, entries_at, entry_at, entry_bytes};
 ghost use Rattle.log_records.specs.Heads.{head_bytes, head_of, IsSpellableHead};
+ghost use Rattle.log_records.specs.Messages.{message_at, message_bytes};
 ghost use Rattle.log_records.specs.Records.{record_bytes, record_at};
 
 /// A record that has a spelling is read again as it was, whatever follows it.
@@ -22,4 +26,68 @@ pub fn what_is_read_has_a_spelling()
 #[tactic(auto, using(crate::proofs::HeadFields::head_again))]
 pub fn heads_are_read_again()
     ensures { (head : Head) → IsSpellableHead head → head_of (head_bytes head) ≡ Ok head }
+{}
+
+/// A message that has a spelling is read again as it was, whatever follows it.
+#[tactic(auto, using(crate::proofs::MessageAgain::message_again))]
+pub fn messages_are_read_again()
+    ensures { (whole : ℕ) (m : Message) (rest : List ℕ) → IsSpellableMessage m → message_at whole (message_bytes m ++ rest) ≡ Ok (m, rest) }
+{}
+
+/// What is read from bytes is a message that has a spelling, and they begin with it.
+pub fn what_is_read_is_a_message()
+    ensures { (whole : ℕ) (bytes : List ℕ) (m : Message) (rest : List ℕ) → All (λ b. b < 256) bytes → message_at whole bytes ≡ Ok (m, rest)
+        → IsSpellableMessage m × (bytes ≡ message_bytes m ++ rest) }
+{}
+
+/// No spelling of a record begins the spelling of another one of so many sites, and none of a message that of another one.
+pub fn no_spelling_begins_another()
+    ensures records { (count : ℕ) (r other : Record) (rest : List ℕ) → IsSpellableRecord count r → IsSpellableRecord count other → record_bytes other ≡ record_bytes r ++ rest
+        → (r ≡ other) × (rest ≡ []) }
+    ensures messages { (m other : Message) (rest : List ℕ) → IsSpellableMessage m → IsSpellableMessage other → message_bytes other ≡ message_bytes m ++ rest
+        → (m ≡ other) × (rest ≡ []) }
+{}
+
+/// An entry that has a spelling is read again as it was, whatever follows it.
+pub fn entries_are_read_again()
+    ensures { (count whole : ℕ) (e : Entry) (rest : List ℕ) → IsSpellableEntry count e → entry_at count whole (entry_bytes e ++ rest) ≡ Ok (e, rest) }
+{}
+
+/// What is read from bytes is an entry that has a spelling, and they begin with it.
+pub fn what_is_read_is_an_entry()
+    ensures { (count whole : ℕ) (bytes : List ℕ) (e : Entry) (rest : List ℕ) → All (λ b. b < 256) bytes → entry_at count whole bytes ≡ Ok (e, rest)
+        → IsSpellableEntry count e × (bytes ≡ entry_bytes e ++ rest) }
+{}
+
+/// A batch that has a spelling is read again as it was, whatever follows it, and is what the whole of its spelling says.
+pub fn batches_are_read_again()
+    ensures { (count : ℕ) (entries : List Entry) → IsSpellableBatch count entries
+        → (batch_of count (batch_bytes entries) ≡ Ok entries) × ((whole : ℕ) (rest : List ℕ) → entries_at count whole (batch_bytes entries ++ rest) ≡ Ok (entries, rest)) }
+{}
+
+/// What is read from bytes is a batch that has a spelling, and they are it.
+pub fn what_is_read_is_a_batch()
+    ensures { (count : ℕ) (bytes : List ℕ) (entries : List Entry) → All (λ b. b < 256) bytes → batch_of count bytes ≡ Ok entries → IsSpellableBatch count entries × (bytes ≡ batch_bytes entries) }
+{}
+
+/// An entry that has a spelling can be written.
+pub fn entries_can_be_written()
+    ensures { (count : ℕ) (e : Entry) → IsSpellableEntry count e → IsWritable e }
+{}
+
+/// A batch that has a spelling can be written.
+pub fn batches_can_be_written()
+    ensures { (count : ℕ) (entries : List Entry) → IsSpellableBatch count entries → All IsWritable entries }
+{}
+
+/// No spelling of an entry begins the spelling of another one of so many sites.
+pub fn no_entry_begins_another()
+    ensures { (count : ℕ) (e other : Entry) (rest : List ℕ) → IsSpellableEntry count e → IsSpellableEntry count other → entry_bytes other ≡ entry_bytes e ++ rest
+        → (e ≡ other) × (rest ≡ []) }
+{}
+
+/// No spelling of a batch begins the spelling of another one of so many sites.
+pub fn no_batch_begins_another()
+    ensures { (count : ℕ) (entries other : List Entry) (rest : List ℕ) → IsSpellableBatch count entries → IsSpellableBatch count other → batch_bytes other ≡ batch_bytes entries ++ rest
+        → (entries ≡ other) × (rest ≡ []) }
 {}

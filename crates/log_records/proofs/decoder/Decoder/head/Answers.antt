@@ -1,4 +1,4 @@
-use Rattle.std.proofs.Common.{◌≡◌, sym, ◌∙◌}
+use Rattle.std.proofs.Common.{sym, ◌∙◌}
 use Rattle.log_records.proofs.Fields.{text_long}
 use Rattle.log_records.proofs.HeadFields.{head_is}
 use Rattle.log_records.proofs.decoder.Decoder.head.Goals as goal

@@ -1,4 +1,4 @@
-use Rattle.std.proofs.Common.{◌≡◌, sym, ap, ◌∙◌, ◌&&◌, not, arith}
+use Rattle.std.proofs.Common.{sym, ap, ◌∙◌, ◌&&◌, not}
 use Rattle.std.proofs.lemmas.Result.{err_from_is_err_and}
 use Rattle.helios_model.specs.Spellings.{is_key, key_of}
 use Rattle.log_records.specs.Items.{is_given}

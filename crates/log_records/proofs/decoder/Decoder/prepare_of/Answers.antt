@@ -1,4 +1,3 @@
-use Rattle.std.proofs.Common.{◌≡◌}
 use Rattle.log_records.proofs.Differ.{keeps_limits}
 use Rattle.log_records.proofs.decoder.Decoder.prepare_of.Goals as goal
 

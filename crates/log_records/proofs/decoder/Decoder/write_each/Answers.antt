@@ -1,8 +1,7 @@
-use Rattle.std.proofs.Common.{◌≡◌, ◌++◌, ◌∷◌, [], ◌-◌, ◌+◌, Result, Ok, sym, ap, subst, ◌∙◌}
+use Rattle.std.proofs.Common.{[], sym, ◌∙◌}
 use Rattle.std.proofs.lemmas.Result.{err_from_is_err_and}
 use Rattle.log_records.specs.Fields.{each_after}
 use Rattle.log_records.specs.Items.{write_at}
-use Rattle.log_records.specs.Decoding.{Fails}
 use Rattle.log_records.proofs.Fields.{each_done, each_fails, each_more}
 use Rattle.log_records.proofs.decoder.Decoder.write_each.Goals as goal
 

@@ -1,0 +1,21 @@
+use Rattle.std.proofs.Common.{[], sym, ◌∙◌}
+use Rattle.std.proofs.lemmas.Result.{err_from_is_err_and}
+use Rattle.log_records.specs.Fields.{each_after}
+use Rattle.log_records.specs.Entries.{entry_at}
+use Rattle.log_records.proofs.Fields.{each_done, each_fails, each_more}
+use Rattle.log_records.proofs.decoder.Decoder.entry_each.Goals as goal
+
+pub returns-in_err-entry : goal.returns-in_err-entry
+returns-in_err-entry c =
+    let p = err_from_is_err_and c.from_residual-in_err-entry.result c.from_residual-in_err-entry.ensures.1 in
+    let told = rw c.loop.invariant.1 at c.in_err-entry.ensures in
+    rw (p.1, p.2) (each_fails (λ before. entry_at c.args.count c.args.self.now.whole) c.in_err-entry.field-0.0 c.args.many c.loop.counter c.loop.entries.items c.loop.self.rest.now (each_after (λ before. entry_at c.args.count c.args.self.now.whole) c.args.many [] c.args.self.now.rest.now) c.loop-test.true c.loop.invariant.0 told)
+
+pub loop-preserved : goal.loop-preserved
+loop-preserved c =
+    let told = rw c.loop.invariant.1 at c.in_ok-entry.ensures.0 in
+    let more = each_more (λ before. entry_at c.args.count c.args.self.now.whole) c.args.many c.loop.counter c.loop.entries.items c.loop.self.rest.now c.in_ok-entry.entry c.entry.new.self.rest.now c.loop-test.true told in
+    (rw c.in_ok-push.ensures.items (sym more ∙ c.loop.invariant.0), c.in_ok-entry.ensures.1 ∙ c.loop.invariant.1)
+
+pub returns : goal.returns
+returns c = (sym c.loop.invariant.0 ∙ each_done (λ before. entry_at c.args.count c.args.self.now.whole) c.args.many c.loop.counter c.loop.entries.items c.loop.self.rest.now c.loop-test.false, c.loop.invariant.1)
