@@ -1,48 +1,52 @@
--- What a core stands for, and what one step of it gives.
-use Rattle.std.specs.Prelude.{◌≡◌, ℕ, ◌+◌, ◌^◌, ◌≤◌, List, length}
+-- What a core stands for.
+use Rattle.std.specs.Prelude.{◌≡◌, ℕ, ◌-◌, ◌^◌, List, length, min}
+use Rattle.helios_model.specs.declared.entries.State.{State}
 use Rattle.helios_model.specs.declared.records.Record.{Record}
-use Rattle.helios_model.specs.Plans.{PlanData}
-use Rattle.helios_model.specs.Node.{Node, clock}
-use Rattle.helios_model.specs.Exchange.{Intake}
-use Rattle.log_exchange.specs.Kept.{LogData}
+use Rattle.helios_model.specs.Transactions.{Transaction}
+use Rattle.helios_model.specs.Plans.{PlanData, count_of}
+use Rattle.helios_model.specs.Node.{Node}
+use Rattle.version_store.specs.declared.held.Held.{Held}
+use Rattle.log_exchange.specs.Kept.{needed}
+use Rattle.site_ledger.specs.Ledger.{AreEnds, IsKept}
+use Rattle.site_node.specs.Node.{SiteData}
+use Rattle.node_limits.specs.Limits.{IsWithinLimits}
 
--- a core as contracts see it
+-- a core as contracts see it: of its site's log there is the length, and what is looked up in it
 pub record CoreState : Type 0 where
   pub plan : PlanData
   pub site : ℕ
-  pub log : List Record
   pub table : List ℕ
+  pub length : ℕ
+  pub pools : List Transaction
+  pub store : List (List ℕ × Held)
+  pub ended : List (ℕ × State)
+  pub kept : List Record
 
--- a core stands for a node of a plan
+-- a core stands for a node of a plan: it keeps exactly the records that some site is not known to have, and the node is one
+-- within limits, as every node is that entries make of an empty one
 pub record IsCoreOf (core : CoreState) (plan : PlanData) (n : Node) : Type 0 where
   pub of_plan : core.plan ≡ plan
   pub at_site : core.site ≡ n.site
-  pub of_log : core.log ≡ n.log
   pub of_table : core.table ≡ n.table
+  pub of_length : core.length ≡ min (length n.log) (2 ^ 64 - 1)
+  pub lookups : IsKept n.log core.pools core.store
+  pub ends : AreEnds n.site n.log core.ended
+  pub keeps : core.kept ≡ needed (count_of plan) n.table n.log
+  pub within : IsWithinLimits plan n
 
--- a node with its plan
-pub record Held : Type 0 where
-  pub plan : PlanData
+-- there is a node for which the core stands
+pub record HasNode (core : CoreState) : Type 0 where
   pub node : Node
+  pub is : IsCoreOf core core.plan node
 
-abbrev pub core_of : Held → CoreState
-core_of h = record { plan = h.plan; site = h.node.site; log = h.node.log; table = h.node.table }
-
--- each record brings the clock on by at most 1, so that it stays far below the end of its type
-abbrev pub IsBounded : PlanData → Node → Type 0
-IsBounded plan n = clock plan n ≤ 2 ^ 62 + length n.log
-
-abbrev pub intake_in : LogData → ℕ → Intake
-intake_in l clock = record { log = l.records; clock = clock }
-
--- the log is of the same site, of as many
-pub record IsSameSite (before after : LogData) : Type 0 where
-  pub count : after.count ≡ before.count
-  pub site : after.site ≡ before.site
-
--- a log took records in, and its site's clock went on with them
-pub record GoesOn (before : LogData) (clock : ℕ) (after : LogData) (clock' : ℕ) : Type 0 where
-  pub count : after.count ≡ before.count
-  pub site : after.site ≡ before.site
-  pub later : clock ≤ clock'
-  pub bounded : clock' ≤ 2 ^ 62 + length after.records
+abbrev pub core_of : SiteData → ℕ → CoreState
+core_of s log_length = record {
+  plan = s.plan;
+  site = s.ledger.site;
+  table = s.table;
+  length = log_length;
+  pools = s.ledger.pools;
+  store = s.ledger.store;
+  ended = s.ledger.ended;
+  kept = s.ledger.kept;
+}

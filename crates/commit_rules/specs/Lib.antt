@@ -1,5 +1,3 @@
 pub mod Core
-pub mod Scan
+pub mod Answers
 pub mod Outcome
-pub mod Limits
-pub mod Ledger

@@ -2,86 +2,96 @@
 ghost use Rattle.std.specs.Prelude.{◌≡◌, ◌<◌, IfOk};
 ghost use Rattle.helios_model.specs.Spellable.{IsMessageOf};
 ghost use Rattle.helios_model.specs.Plans.{count_of};
-ghost use Rattle.helios_model.specs.Node.{is_spent, status};
-ghost use Rattle.commit_rules.specs.Limits.{IsSoundNode};
-ghost use Rattle.helios_model.specs.Step.{MayBeAsked, ask_status, by_clock, get, step};
+ghost use Rattle.helios_model.specs.Node.{is_spent};
+ghost use Rattle.helios_model.specs.Step.{MayBeAsked, by_clock, get, step};
+ghost use Rattle.site_ledger.specs.Ledger.{Base};
+ghost use Rattle.site_node.specs.Node.{HasSoundNode, IsNodeOf, IsSamePlace, node_in};
+ghost use Rattle.commit_rules.specs.Answers.{Answers};
 
-use crate::messages::{answer_pull, answer_push};
-use crate::parts::Parts;
 use crate::requests::answer_request;
-use crate::scan::state_of;
-use helios_model::{Ask, Bytes, Entry, Input, Key, Message, Reply, SiteId, State, TxnId, Val};
+use helios_model::{Ask, Bytes, Entry, Input, Key, Message, Reply, SiteId, Val};
+use node_limits::each_current_value_is_a_value;
+use site_node::SiteNode;
 use std::alloc::AllocError;
 
-fn answer_get(parts: &Parts, key: &Key) -> Result<Reply, AllocError>
-    requires { IsSoundNode parts.now.plan parts.now.node }
-    ensures { IfOk result (λ reply. get parts.now.node key.now ≡ record { reply = reply; node = parts.now.node }) }
+fn answer_get(node: &SiteNode, key: &Key) -> Result<Reply, AllocError>
+    requires { HasSoundNode node.now }
+    ensures { IfOk result (λ reply. (b : Base) → IsNodeOf b node.now → get (node_in b node.now) key.now ≡ record { reply = reply; node = node_in b node.now }) }
 {
-    let (version, value) = parts.ledger().current(key);
-    let value = Val::of(Bytes::new(Vec::from_slice(parts.alloc(), value)?));
-    Ok(Reply::Value { version, value })
+    each_current_value_is_a_value();
+    let (version, value) = node.ledger().current(key);
+    let value = Val::of(Bytes::new(Vec::from_slice(node.alloc(), value)?));
+    let reply = Reply::Value { version, value };
+    Ok(reply)
 }
 
-/// What is known at its own site of a transaction.
-pub(crate) fn status(parts: &Parts, id: &TxnId) -> State
-    ensures { result ≡ status parts.now.node id.now }
+fn unless_spent_request(
+    node: SiteNode,
+    reading: u64,
+    ask: Ask,
+) -> Result<(SiteNode, Reply), AllocError>
+    requires { HasSoundNode node }
+    ensures answer { IfOk result (λ t. Answers node t.0 t.1 (λ n. by_clock node.plan n reading (Input.Request ask) (is_spent node.plan n))) }
+    ensures place { IfOk result (λ t. IsSamePlace node t.0) }
 {
-    state_of(parts.log(), parts.site(), id)
-}
-
-fn unless_spent_request(parts: Parts, reading: u64, ask: Ask) -> Result<(Parts, Reply), AllocError>
-    requires { IsSoundNode parts.plan parts.node }
-    ensures answer { IfOk result (λ t. by_clock parts.plan parts.node reading (Input.Request ask) (is_spent parts.plan parts.node) ≡ record { reply = t.1; node = t.0.node }) }
-    ensures plan { IfOk result (λ t. t.0.plan ≡ parts.plan) }
-{
-    if parts.is_spent() {
-        return Ok((parts, Reply::ClockSpent));
+    if node.is_spent() {
+        return Ok((node, Reply::ClockSpent));
     }
-    answer_request(parts, reading, ask)
+    answer_request(node, reading, ask)
 }
 
-fn unless_spent_pull(parts: Parts, reading: u64, to: SiteId) -> Result<(Parts, Reply), AllocError>
-    requires { to < count_of parts.plan }
-    ensures answer { IfOk result (λ t. by_clock parts.plan parts.node reading (Input.Pull to) (is_spent parts.plan parts.node) ≡ record { reply = t.1; node = t.0.node }) }
-    ensures plan { IfOk result (λ t. t.0.plan ≡ parts.plan) }
+fn unless_spent_pull(
+    node: SiteNode,
+    reading: u64,
+    to: SiteId,
+) -> Result<(SiteNode, Reply), AllocError>
+    requires { to < count_of node.plan }
+    ensures answer { IfOk result (λ t. Answers node t.0 t.1 (λ n. by_clock node.plan n reading (Input.Pull to) (is_spent node.plan n))) }
+    ensures place { IfOk result (λ t. IsSamePlace node t.0) }
 {
-    if parts.is_spent() {
-        return Ok((parts, Reply::ClockSpent));
+    if node.is_spent() {
+        return Ok((node, Reply::ClockSpent));
     }
-    answer_pull(parts, reading, to)
+    let (advanced, message) = node.pull(reading, to)?;
+    Ok((advanced, Reply::Sent(message)))
 }
 
-fn unless_spent_push(parts: Parts, reading: u64, m: Message) -> Result<(Parts, Reply), AllocError>
-    requires sound { IsSoundNode parts.plan parts.node }
-    requires message { IsMessageOf (count_of parts.plan) m }
-    ensures answer { IfOk result (λ t. by_clock parts.plan parts.node reading (Input.Push m) (is_spent parts.plan parts.node) ≡ record { reply = t.1; node = t.0.node }) }
-    ensures plan { IfOk result (λ t. t.0.plan ≡ parts.plan) }
+fn unless_spent_push(
+    node: SiteNode,
+    reading: u64,
+    m: Message,
+) -> Result<(SiteNode, Reply), AllocError>
+    requires sound { HasSoundNode node }
+    requires message { IsMessageOf (count_of node.plan) m }
+    ensures answer { IfOk result (λ t. Answers node t.0 t.1 (λ n. by_clock node.plan n reading (Input.Push m) (is_spent node.plan n))) }
+    ensures place { IfOk result (λ t. IsSamePlace node t.0) }
 {
-    if parts.is_spent() {
-        return Ok((parts, Reply::ClockSpent));
+    if node.is_spent() {
+        return Ok((node, Reply::ClockSpent));
     }
-    answer_push(parts, reading, m)
+    let pushed = node.push(reading, m)?;
+    Ok((pushed, Reply::Taken))
 }
 
 /// Takes the node one step: the answer to an input, by the rules.
-pub(crate) fn answer(parts: Parts, entry: Entry) -> Result<(Parts, Reply), AllocError>
-    requires sound { IsSoundNode parts.plan parts.node }
-    requires may { MayBeAsked parts.plan parts.node.site entry.input }
-    ensures answer { IfOk result (λ t. step parts.plan parts.node entry ≡ record { reply = t.1; node = t.0.node }) }
-    ensures plan { IfOk result (λ t. t.0.plan ≡ parts.plan) }
+pub(crate) fn answer(node: SiteNode, entry: Entry) -> Result<(SiteNode, Reply), AllocError>
+    requires sound { HasSoundNode node }
+    requires may { MayBeAsked node.plan node.ledger.site entry.input }
+    ensures answer { IfOk result (λ t. Answers node t.0 t.1 (λ n. step node.plan n entry)) }
+    ensures place { IfOk result (λ t. IsSamePlace node t.0) }
 {
     let Entry { reading, input } = entry;
     match input {
         Input::Get(key) => {
-            let reply = answer_get(&parts, &key)?;
-            Ok((parts, reply))
+            let reply = answer_get(&node, &key)?;
+            Ok((node, reply))
         }
         Input::Status(id) => {
-            let reply = Reply::State(status(&parts, &id));
-            Ok((parts, reply))
+            let reply = Reply::State(node.ledger().status(&id));
+            Ok((node, reply))
         }
-        Input::Request(ask) => unless_spent_request(parts, reading, ask),
-        Input::Pull(to) => unless_spent_pull(parts, reading, to),
-        Input::Push(m) => unless_spent_push(parts, reading, m),
+        Input::Request(ask) => unless_spent_request(node, reading, ask),
+        Input::Pull(to) => unless_spent_pull(node, reading, to),
+        Input::Push(m) => unless_spent_push(node, reading, m),
     }
 }

@@ -1,14 +1,8 @@
-//! The core of a site's node: it follows the rules step by step, and keeps the whole log as a list.
+//! The core of a site's node: it follows the rules step by step, and keeps of its log what later steps look up.
 #![tactic(auto)]
 
 mod answers;
-mod arrivals;
-mod fresh;
-mod ledger;
-mod messages;
-mod parts;
 mod requests;
 mod rules;
-mod scan;
 
 pub use rules::{Core, Outcome, Summary};

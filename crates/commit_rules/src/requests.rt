@@ -1,38 +1,53 @@
 //! The rules of a request, in their order.
-ghost use Rattle.std.specs.Prelude.{◌≡◌, ◌+◌, ◌^◌, ◌<◌, ◌≤◌, IfOk, map, not};
+ghost use Rattle.std.specs.Prelude.{◌≡◌, ◌+◌, ◌^◌, ◌<◌, ◌≤◌, IfOk, find, map};
 ghost use Rattle.std.specs.Option.{option_map, option_or};
 ghost use Rattle.helios_model.specs.Ids.{same_version};
-ghost use Rattle.helios_model.specs.Log.{current};
-ghost use Rattle.helios_model.specs.Node.{clock, next_time};
-ghost use Rattle.helios_model.specs.Request.{accept, asked, clash_refusal, next_id, request, room_refusal, stale_read, stale_refusal, unless_refused, write_at};
-ghost use Rattle.commit_rules.specs.Ledger.{IsAfter};
-ghost use Rattle.commit_rules.specs.Limits.{IsSoundNode};
+ghost use Rattle.helios_model.specs.Request.{accept, asked, clash_refusal, next_id, request, room_refusal, stale_refusal, unless_refused};
+ghost use Rattle.node_limits.specs.Limits.{IsAfter};
+ghost use Rattle.site_ledger.specs.Ledger.{Base, HasEarlier, log_in};
+ghost use Rattle.site_node.specs.Node.{HasSoundNode, IsNodeOf, IsSamePlace, clock_in, node_in};
+ghost use Rattle.commit_rules.specs.Answers.{Answers, AnswersAt, is_stale_in, stale_reply_in, write_in};
 
-use crate::ledger::Ledger;
-use crate::parts::Parts;
-use crate::scan::is_same_version;
 use helios_model::{
     Ask, LAST_READING, MOST_OPEN, Prepare, PutItem, Puts, ReadItem, Record, Reply, Time, TxnId,
-    WriteItem, Writes,
+    Version, WriteItem, Writes,
 };
+use node_limits::{asked_is_transaction, own_records_come_after};
+use site_ledger::Ledger;
+use site_node::SiteNode;
 use std::alloc::{AllocError, Global};
 
+fn is_same_version(a: &Version, b: &Version) -> bool
+    ensures { result ≡ same_version a.now b.now }
+{
+    match a {
+        Version::Initial => match b {
+            Version::Initial => true,
+            Version::Of(_) => false,
+        },
+        Version::Of(first) => match b {
+            Version::Initial => false,
+            Version::Of(second) => *first == *second,
+        },
+    }
+}
+
 fn is_stale(ledger: &Ledger, read: &ReadItem) -> bool
-    ensures { result ≡ not (same_version read.now.version (current ledger.now.records read.now.key)) }
+    ensures { result ≡ is_stale_in ledger.now.store read.now }
 {
     let (version, _) = ledger.current(&read.key);
     !is_same_version(&read.version, &version)
 }
 
 fn first_stale<'a>(ledger: &Ledger, reads: &'a [ReadItem]) -> Option<&'a ReadItem>
-    ensures { option_map (λ r. r.now) result ≡ stale_read ledger.now.records reads.now }
+    ensures { option_map (λ r. r.now) result ≡ find (is_stale_in ledger.now.store) reads.now }
 {
     reads.iter().find(|r| is_stale(ledger, r))
 }
 
 /// Names the current version of the first read that is stale.
 fn stale_refusal(ledger: &Ledger, ask: &Ask) -> Result<Option<Reply>, AllocError>
-    ensures { IfOk result (λ found. found ≡ stale_refusal ledger.now.records ask.now) }
+    ensures { IfOk result (λ found. found ≡ stale_reply_in ledger.now.store ask.now.reads) }
 {
     match first_stale(ledger, ask.reads().items()) {
         Some(read) => {
@@ -45,17 +60,17 @@ fn stale_refusal(ledger: &Ledger, ask: &Ask) -> Result<Option<Reply>, AllocError
 }
 
 /// Why a request is refused, by the rules of room and of stale reads.
-fn early_refusal(parts: &Parts, ask: &Ask) -> Result<Option<Reply>, AllocError>
-    ensures { IfOk result (λ found. found ≡ option_or (room_refusal parts.now.node) (stale_refusal parts.now.node.log ask.now)) }
+fn early_refusal(node: &SiteNode, ask: &Ask) -> Result<Option<Reply>, AllocError>
+    ensures { IfOk result (λ found. (b : Base) → IsNodeOf b node.now → found ≡ option_or (room_refusal (node_in b node.now)) (stale_refusal (log_in b node.now.ledger) ask.now)) }
 {
-    if parts.pending() >= MOST_OPEN {
+    if node.ledger().own_open() >= MOST_OPEN {
         return Ok(Some(Reply::PoolFull));
     }
-    stale_refusal(parts.ledger(), ask)
+    stale_refusal(node.ledger(), ask)
 }
 
 fn write_over(ledger: &Ledger, put: PutItem) -> WriteItem
-    ensures { result ≡ write_at ledger.now.records put }
+    ensures { result ≡ write_in ledger.now.store put }
 {
     let (over, _) = ledger.current(&put.key);
     let PutItem { key, value } = put;
@@ -63,7 +78,7 @@ fn write_over(ledger: &Ledger, put: PutItem) -> WriteItem
 }
 
 fn writes_over(alloc: Global, ledger: &Ledger, puts: Puts) -> Result<Vec<WriteItem>, AllocError>
-    ensures { IfOk result (λ ws. ws.items ≡ map (write_at ledger.now.records) puts) }
+    ensures { IfOk result (λ ws. ws.items ≡ map (write_in ledger.now.store) puts) }
 {
     puts.into_items()
         .into_iter()
@@ -72,40 +87,48 @@ fn writes_over(alloc: Global, ledger: &Ledger, puts: Puts) -> Result<Vec<WriteIt
 }
 
 /// The name that the node gives next.
-fn next_name(parts: &Parts, reading: u64) -> TxnId
-    requires { clock parts.now.plan parts.now.node < 2 ^ 62 }
-    ensures name { result ≡ next_id parts.now.plan parts.now.node reading }
+fn next_name(node: &SiteNode, reading: u64) -> TxnId
+    requires { clock_in node.now < 2 ^ 62 }
+    ensures name { (b : Base) → result ≡ next_id node.now.plan (node_in b node.now) reading }
+    ensures own { result.site ≡ node.now.ledger.site }
+    ensures above { clock_in node.now < result.time }
     ensures small { result.time ≤ 2 ^ 62 }
 {
-    let time = reading.min(LAST_READING).max(parts.clock() + 1);
+    let time = reading.min(LAST_READING).max(node.clock() + 1);
     TxnId {
-        site: parts.site(),
+        site: node.site(),
         time: Time::of(time),
     }
 }
 
 /// The transaction that a request becomes.
-fn transaction_for(parts: &Parts, reading: u64, ask: Ask) -> Result<Prepare, AllocError>
-    requires { clock parts.now.plan parts.now.node < 2 ^ 62 }
-    ensures asked { IfOk result (λ p. p ≡ asked parts.now.node.log (next_id parts.now.plan parts.now.node reading) ask) }
+fn transaction_for(node: &SiteNode, reading: u64, ask: Ask) -> Result<Prepare, AllocError>
+    requires clock { clock_in node.now < 2 ^ 62 }
+    requires sound { HasSoundNode node.now }
+    ensures asked { IfOk result (λ p. (b : Base) → IsNodeOf b node.now → p ≡ asked (log_in b node.now.ledger) (next_id node.now.plan (node_in b node.now) reading) ask) }
+    ensures own { IfOk result (λ p. p.id.site ≡ node.now.ledger.site) }
+    ensures above { IfOk result (λ p. clock_in node.now < p.id.time) }
     ensures small { IfOk result (λ p. p.id.time ≤ 2 ^ 62) }
 {
-    let id = next_name(parts, reading);
+    asked_is_transaction();
+    let id = next_name(node, reading);
     let (reads, puts) = ask.into_parts();
-    let writes = Writes::new(writes_over(parts.alloc(), parts.ledger(), puts)?);
-    Ok(Prepare::of(id, reads, writes))
+    let writes = Writes::new(writes_over(node.alloc(), node.ledger(), puts)?);
+    let transaction = Prepare::of(id, reads, writes);
+    Ok(transaction)
 }
 
-fn accept_asked(parts: Parts, p: Prepare) -> Result<(Parts, Reply), AllocError>
-    requires own { p.id.site ≡ parts.node.site }
-    requires after { IsAfter parts.node.log (Record.Prepare p) }
-    requires later { clock parts.plan parts.node ≤ p.id.time }
+/// Takes a transaction, commits what can commit, and tells whether it did.
+fn accept_asked(node: SiteNode, p: Prepare) -> Result<(SiteNode, Reply), AllocError>
+    requires own { p.id.site ≡ node.ledger.site }
+    requires after { HasEarlier node.ledger (Record.Prepare p) }
+    requires later { clock_in node ≤ p.id.time }
     requires small { p.id.time ≤ 2 ^ 62 }
-    ensures answer { IfOk result (λ t. accept parts.plan parts.node p ≡ record { reply = t.1; node = t.0.node }) }
-    ensures plan { IfOk result (λ t. t.0.plan ≡ parts.plan) }
+    ensures answer { IfOk result (λ t. (b : Base) → IsNodeOf b node → IsAfter (log_in b node.ledger) (Record.Prepare p) → AnswersAt b node t.0 t.1 (λ n. accept node.plan n p)) }
+    ensures place { IfOk result (λ t. IsSamePlace node t.0) }
 {
     let id = p.id();
-    let entered = parts.enter(p)?;
+    let entered = node.enter(p)?;
     let settled = entered.settle()?;
     if settled.ledger().holds(&id) {
         Ok((settled, Reply::Prepared(id)))
@@ -115,32 +138,33 @@ fn accept_asked(parts: Parts, p: Prepare) -> Result<(Parts, Reply), AllocError>
 }
 
 /// Answers a request that no early rule refuses: by the first conflict, or by taking it.
-fn answer_unrefused(parts: Parts, reading: u64, ask: Ask) -> Result<(Parts, Reply), AllocError>
-    requires clock { clock parts.plan parts.node < 2 ^ 62 }
-    requires sound { IsSoundNode parts.plan parts.node }
-    ensures answer { IfOk result (λ t. unless_refused parts.plan parts.node (asked parts.node.log (next_id parts.plan parts.node reading) ask) (clash_refusal parts.node.log ask) ≡ record { reply = t.1; node = t.0.node }) }
-    ensures plan { IfOk result (λ t. t.0.plan ≡ parts.plan) }
+fn answer_unrefused(node: SiteNode, reading: u64, ask: Ask) -> Result<(SiteNode, Reply), AllocError>
+    requires clock { clock_in node < 2 ^ 62 }
+    requires sound { HasSoundNode node }
+    ensures answer { IfOk result (λ t. Answers node t.0 t.1 (λ n. unless_refused node.plan n (asked n.log (next_id node.plan n reading) ask) (clash_refusal n.log ask))) }
+    ensures place { IfOk result (λ t. IsSamePlace node t.0) }
 {
-    let p = transaction_for(&parts, reading, ask)?;
-    match parts.ledger().first_conflict(&p) {
-        Some(id) => Ok((parts, Reply::Conflict(id))),
-        None => accept_asked(parts, p),
+    own_records_come_after();
+    let p = transaction_for(&node, reading, ask)?;
+    match node.ledger().first_conflict(&p) {
+        Some(id) => Ok((node, Reply::Conflict(id))),
+        None => accept_asked(node, p),
     }
 }
 
 /// Answers a request, at a site whose clock is not spent.
 pub(crate) fn answer_request(
-    parts: Parts,
+    node: SiteNode,
     reading: u64,
     ask: Ask,
-) -> Result<(Parts, Reply), AllocError>
-    requires clock { clock parts.plan parts.node < 2 ^ 62 }
-    requires sound { IsSoundNode parts.plan parts.node }
-    ensures answer { IfOk result (λ t. request parts.plan parts.node reading ask ≡ record { reply = t.1; node = t.0.node }) }
-    ensures plan { IfOk result (λ t. t.0.plan ≡ parts.plan) }
+) -> Result<(SiteNode, Reply), AllocError>
+    requires clock { clock_in node < 2 ^ 62 }
+    requires sound { HasSoundNode node }
+    ensures answer { IfOk result (λ t. Answers node t.0 t.1 (λ n. request node.plan n reading ask)) }
+    ensures place { IfOk result (λ t. IsSamePlace node t.0) }
 {
-    match early_refusal(&parts, &ask)? {
-        Some(reply) => Ok((parts, reply)),
-        None => answer_unrefused(parts, reading, ask),
+    match early_refusal(&node, &ask)? {
+        Some(reply) => Ok((node, reply)),
+        None => answer_unrefused(node, reading, ask),
     }
 }

@@ -1,37 +1,39 @@
 //! The core of a site's node.
-ghost use Rattle.std.specs.Prelude.{◌≡◌, ◌<◌, IfOk, length, drop};
+ghost use Rattle.std.specs.Prelude.{◌≡◌, ◌<◌, IfOk};
 ghost use Rattle.helios_model.specs.Plans.{PlanData, count_of};
 ghost use Rattle.helios_model.specs.Log.{current, current_value};
 ghost use Rattle.helios_model.specs.Node.{Node, empty_node, status};
 ghost use Rattle.helios_model.specs.Spellable.{IsSpellableReply, IsSpellableVersion};
-ghost use Rattle.commit_rules.specs.Limits.{IsSoundNode};
-ghost use Rattle.helios_model.specs.Step.{MayBeAsked, step};
-ghost use Rattle.helios_model.specs.World.{own_commits};
+ghost use Rattle.helios_model.specs.Step.{MayBeAsked};
 
-use crate::answers::{answer, status};
-use crate::fresh::{own_commits, records_behind};
-use crate::parts::Parts;
+use crate::answers::answer;
 use helios_model::{
     Commits, Entry, Key, MOST_SITES, Plan, Records, Reply, SiteId, State, Time, TxnId, Version,
 };
+use node_limits::{
+    a_step_keeps_limits, an_empty_node_is_within_limits, each_current_version_is_spellable,
+    each_reply_is_spellable,
+};
+use site_node::SiteNode;
 use std::alloc::{AllocError, Global};
 use std::marker::Model;
 
 /// A site's node, which follows the rules step by step.
 #[derive(Drop)]
 pub struct Core {
-    parts: Parts,
+    node: SiteNode,
+    log_length: u64,
 }
 
 impl Model for Core {
-    ghost use Rattle.commit_rules.specs.Core.{CoreState, core_of};
-    ghost use Rattle.commit_rules.specs.Limits.{IsWithinLimits};
+    ghost use Rattle.std.specs.Prelude.{◌≡◌, []};
+    ghost use Rattle.commit_rules.specs.Core.{CoreState, HasNode, core_of};
 
     ghost Value = { CoreState };
 
-    ghost view = { λ c. core_of c.parts };
+    ghost view = { λ c. core_of c.node c.log_length };
 
-    ghost invariant = { λ c. IsWithinLimits c.parts.plan c.parts.node };
+    ghost invariant = { λ c. HasNode (core_of c.node c.log_length) × (c.node.ledger.added ≡ []) × (c.node.ledger.commits ≡ []) };
 }
 
 /// What a step gives: the core after it, the answer, what was appended to the log, and the own Commits among it with
@@ -53,23 +55,6 @@ pub struct Summary {
     pub pending: u64,
 }
 
-/// Takes a step, and gives the answer, what was appended, and the own Commits among it.
-fn take_step(parts: Parts, entry: Entry) -> Result<(Parts, Reply, Records, Commits), AllocError>
-    requires sound { IsSoundNode parts.plan parts.node }
-    requires may { MayBeAsked parts.plan parts.node.site entry.input }
-    ensures answer { IfOk result (λ t. step parts.plan parts.node entry ≡ record { reply = t.1; node = t.0.node }) }
-    ensures plan { IfOk result (λ t. t.0.plan ≡ parts.plan) }
-    ensures added { IfOk result (λ t. t.2 ≡ drop (length parts.node.log) t.0.node.log) }
-    ensures commits { IfOk result (λ t. t.3 ≡ own_commits parts.node.site t.0.node.log (length parts.node.log)) }
-{
-    let old = parts.log().len();
-    let site = parts.site();
-    let (after, reply) = answer(parts, entry)?;
-    let added = records_behind(after.alloc(), after.log(), old)?;
-    let commits = own_commits(after.alloc(), after.log(), site, old)?;
-    Ok((after, reply, Records::new(added), Commits::new(commits)))
-}
-
 impl Core {
     ghost use Rattle.commit_rules.specs.Core.{IsCoreOf};
     ghost use Rattle.commit_rules.specs.Outcome.{IsOutcome, IsSummaryOf};
@@ -79,9 +64,13 @@ impl Core {
         requires { site < count_of plan }
         ensures { IfOk result (λ core. IsCoreOf core plan (empty_node plan site)) }
     {
+        an_empty_node_is_within_limits();
         prove!(plan.count() <= MOST_SITES);
-        let parts = Parts::new(alloc, plan, site)?;
-        let core = Core { parts };
+        let node = SiteNode::new(alloc, plan, site)?;
+        let core = Core {
+            node,
+            log_length: 0,
+        };
         Ok(core)
     }
 
@@ -94,8 +83,15 @@ impl Core {
         ensures plan { IfOk result (λ out. out.core.plan ≡ self.plan) }
         ensures site { IfOk result (λ out. out.core.site ≡ self.site) }
     {
-        let (parts, reply, added, commits) = take_step(self.parts, entry)?;
-        let core = Core { parts };
+        a_step_keeps_limits();
+        each_reply_is_spellable();
+        let (answered, reply) = answer(self.node, entry)?;
+        let (node, added, commits) = answered.finish();
+        let gained = added.items().len() as u64;
+        let core = Core {
+            node,
+            log_length: self.log_length.saturating_add(gained),
+        };
         let outcome = Outcome {
             core,
             reply,
@@ -109,7 +105,7 @@ impl Core {
     pub fn status(&self, id: TxnId) -> State
         ensures { (plan : PlanData) (n : Node) → IsCoreOf self.now plan n → result ≡ status n id }
     {
-        status(&self.parts, &id)
+        self.node.ledger().status(&id)
     }
 
     /// The current version and value of a key; the empty value where nothing was written.
@@ -118,17 +114,19 @@ impl Core {
         ensures spelled { IsSpellableVersion result.0 }
         ensures value { (plan : PlanData) (n : Node) → IsCoreOf self.now plan n → result.1.now ≡ current_value n.log key.now }
     {
-        self.parts.ledger().current(key)
+        each_current_version_is_spellable();
+        self.node.ledger().current(key)
     }
 
     /// Where the node has come to.
     pub fn summary(&self) -> Summary
         ensures { (plan : PlanData) (n : Node) → IsCoreOf self.now plan n → IsSummaryOf plan n result }
     {
-        Summary {
-            time: Time::of(self.parts.clock()),
-            log: self.parts.log().len() as u64,
-            pending: self.parts.pending(),
-        }
+        let summary = Summary {
+            time: Time::of(self.node.clock()),
+            log: self.log_length,
+            pending: self.node.ledger().own_open(),
+        };
+        summary
     }
 }

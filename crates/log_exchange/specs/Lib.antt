@@ -1,1 +1,4 @@
+pub mod Heads
 pub mod Kept
+pub mod Laws
+pub mod Runs

@@ -3,9 +3,10 @@ ghost use Rattle.std.specs.Prelude.{◌≡◌, ◌<◌, IfOk, OnErr, OnOk, lengt
 ghost use Rattle.helios_model.specs.Log.{origin};
 ghost use Rattle.helios_model.specs.Exchange.{sent_records};
 ghost use Rattle.time_table.specs.Table.{time_at};
-ghost use Rattle.log_exchange.specs.Kept.{AreOf, appended, cover_of, first_log};
+ghost use Rattle.log_exchange.specs.Kept.{AreOf, appended, cover_of, first_log, with_needed};
 
-use crate::selection::selected;
+use crate::backlog::Backlog;
+use crate::selection::{cover, take_due};
 use helios_model::{Record, Records, SiteId, Times};
 use std::alloc::{AllocError, Global};
 use std::marker::Model;
@@ -14,21 +15,21 @@ use time_table::TimeTable;
 /// The records of a site's log, in its order, for the messages to the other sites.
 #[derive(Drop)]
 pub struct ExchangeLog {
-    count: u8,
     site: SiteId,
-    records: Vec<Record>,
+    backlog: Backlog,
     alloc: Global,
 }
 
 impl Model for ExchangeLog {
     ghost use Rattle.std.specs.Prelude.{◌<◌};
-    ghost use Rattle.log_exchange.specs.Kept.{AreOf, LogData};
+    ghost use Rattle.std.specs.Map.{values_of};
+    ghost use Rattle.log_exchange.specs.Kept.{LogData};
 
     ghost Value = { LogData };
 
-    ghost view = { λ l. record { count = l.count; site = l.site; records = l.records.items } };
+    ghost view = { λ l. record { count = l.backlog.count; site = l.site; records = values_of l.backlog.entries } };
 
-    ghost invariant = { λ l. (l.site < l.count) × AreOf l.count l.records.items };
+    ghost invariant = { λ l. l.site < l.backlog.count };
 }
 
 impl ExchangeLog {
@@ -38,9 +39,8 @@ impl ExchangeLog {
         ensures { IfOk result (λ l. l ≡ first_log count site) }
     {
         Ok(ExchangeLog {
-            count,
             site,
-            records: Vec::new(alloc),
+            backlog: Backlog::new(alloc, count)?,
             alloc,
         })
     }
@@ -53,19 +53,12 @@ impl ExchangeLog {
         self.site
     }
 
-    /// The records, in the order in which they were appended.
-    pub fn records(&self) -> &[Record]
-        ensures value { result.now ≡ self.now.records }
-        ensures origins { AreOf self.now.count self.now.records }
-    {
-        self.records.as_slice()
-    }
-
     /// How many records are kept.
     pub fn retained(&self) -> usize
-        ensures { result ≡ length self.now.records }
+        ensures number { result ≡ length self.now.records }
+        ensures origins { AreOf self.now.count self.now.records }
     {
-        self.records.len()
+        self.backlog.len()
     }
 
     /// Appends a record of one of the sites. After want of memory the log is as it was, and the record is dropped.
@@ -74,8 +67,7 @@ impl ExchangeLog {
         ensures ok { OnOk result (self.new ≡ appended self.old r) }
         ensures err { OnErr result (self.new ≡ self.old) }
     {
-        self.records.push(r)?;
-        Ok(())
+        self.backlog.push(r)
     }
 
     /// What a message to another site tells, by the table of this one: the first of the records that the other site is
@@ -86,14 +78,16 @@ impl ExchangeLog {
         ensures records { IfOk result (λ m. m.0 ≡ sent_records (time_at t.now to) self.now.records) }
         ensures cover { IfOk result (λ m. m.1 ≡ cover_of self.now.count (time_at t.now self.now.site) (time_at t.now to) self.now.records) }
     {
-        let count = t.count() as usize;
-        selected(
-            self.alloc,
-            count,
-            t.grid().items(),
-            self.site,
-            to,
-            self.records.as_slice(),
-        )
+        let taken = take_due(self.alloc, &self.backlog, t, to)?;
+        let cover = cover(self.alloc, &self.backlog, &taken.heads, t, self.site)?;
+        Ok((Records::new(taken.records), Times::new(cover)))
+    }
+
+    /// Lets each record go that every site is known to have, and keeps the others in their order. It takes no memory.
+    pub fn drop_known(&mut self, t: &TimeTable)
+        requires count { t.now.count ≡ self.old.count }
+        ensures { self.new ≡ with_needed self.old t.now.times }
+    {
+        self.backlog.drop_known(t);
     }
 }

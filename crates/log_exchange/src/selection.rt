@@ -1,132 +1,174 @@
-//! Which records are due, and what a message covers, by a table of times that is given row after row.
-ghost use Rattle.std.specs.Prelude.{◌≡◌, ◌*◌, ◌<◌, IfOk, find, length, map, nat_eq};
-ghost use Rattle.std.specs.List.{range_with_len};
-ghost use Rattle.std.specs.Option.{option_map};
-ghost use Rattle.helios_model.specs.Grid.{at};
-ghost use Rattle.helios_model.specs.Log.{origin};
-ghost use Rattle.helios_model.specs.Exchange.{cover_at, covered, due, is_due, sent_records};
-ghost use Rattle.log_exchange.specs.Kept.{AreOf, cover_of};
+// Which records are due to a site, and what a message of them covers.
+ghost use Rattle.std.specs.Prelude.{◌≡◌, ◌<◌, IfOk, OnOk, [], ◌++◌, length, map, slice_index};
+ghost use Rattle.std.specs.List.{cons_option, range_with_len};
+ghost use Rattle.time_table.specs.Table.{time_at};
+ghost use Rattle.log_exchange.specs.Heads.{HasGoneOn, IsFilled, IsLeast, IsNextHead, IsStarted, covered_to, earlier_of, head_of};
+ghost use Rattle.log_exchange.specs.Runs.{record_under, run_of};
 
-use helios_model::{MOST_RECORDS, Record, Records, SiteId, Times};
+use crate::backlog::Backlog;
+use crate::run::Stamp;
+use helios_model::{MOST_RECORDS, Record, SiteId};
 use std::alloc::{AllocError, Global};
+use time_table::TimeTable;
 
-fn is_due(count: usize, times: &[u64], to: SiteId, r: &Record) -> bool
-    requires square { length times.now ≡ count * count }
-    requires to { to < count }
-    requires origin { origin r.now < count }
-    ensures { result ≡ is_due (at count times.now to) r.now }
-{
-    let place = to.number() as usize * count + r.origin().number() as usize;
-    times[place] < r.own_time().half_micros()
+// The next record of an origin.
+#[derive(Clone, Copy, Debug)]
+struct Head {
+    site: u8,
+    arrival: u64,
 }
 
-/// The records that a site is not known to have, in log order.
-#[tactic(auto, using(crate::proofs::Selected::due_drop, crate::proofs::Selected::origin_at))]
-fn due_records<'a>(
+// Up to when a site is known to know another one, in half microseconds.
+fn known(t: &TimeTable, row: SiteId, k: u8) -> u64
+    requires row { row < t.now.count }
+    requires column { k < t.now.count }
+    ensures { result ≡ time_at t.now row k }
+{
+    let count = t.count() as usize;
+    t.grid().items()[row.number() as usize * count + k as usize]
+}
+
+fn head_at(backlog: &Backlog, heads: &[usize], k: u8) -> Option<Stamp>
+    requires sized { length heads.now ≡ backlog.now.count }
+    requires origin { k < backlog.now.count }
+    ensures { result ≡ head_of backlog.now heads.now k }
+{
+    backlog.at(k, heads[k as usize])
+}
+
+// The one that comes first, of the best so far and one more.
+fn earlier(best: Option<Head>, site: u8, next: Option<Stamp>) -> Option<Head>
+    ensures { result ≡ earlier_of best site next }
+{
+    let Some(stamp) = next else {
+        return best;
+    };
+    let arrival = stamp.arrival;
+    match best {
+        Some(head) if head.arrival <= arrival => Some(head),
+        _ => Some(Head { site, arrival }),
+    }
+}
+
+// The head whose record comes first.
+fn earliest(backlog: &Backlog, heads: &[usize]) -> Option<Head>
+    requires { length heads.now ≡ backlog.now.count }
+    ensures { IsLeast backlog.now heads.now backlog.now.count result }
+{
+    let mut best = None;
+    for k in 0..backlog.count() {
+        best = earlier(best, k, head_at(backlog, heads, k));
+    }
+    best
+}
+
+// The same, where a message with so many records has room for one more.
+fn next_head(backlog: &Backlog, heads: &[usize], taken: usize) -> Option<Head>
+    requires { length heads.now ≡ backlog.now.count }
+    ensures { IsNextHead backlog.now heads.now taken result }
+{
+    if taken < MOST_RECORDS {
+        earliest(backlog, heads)
+    } else {
+        None
+    }
+}
+
+fn take_record(backlog: &Backlog, records: &mut Vec<Record>, arrival: u64) -> Result<(), AllocError>
+    ensures { OnOk result (records.new.items ≡ records.old.items ++ cons_option (record_under backlog.now.entries arrival) []) }
+{
+    match backlog.record(arrival) {
+        Some(r) => {
+            records.push(r.copy()?)?;
+            Ok(())
+        }
+        None => Ok(()),
+    }
+}
+
+fn go_on(backlog: &Backlog, heads: &mut Vec<usize>, site: u8, known: u64)
+    requires sized { length heads.old.items ≡ backlog.now.count }
+    requires origin { site < backlog.now.count }
+    requires there { slice_index heads.old.items site < length (run_of site backlog.now.entries) }
+    ensures { HasGoneOn backlog.now known heads.old.items heads.new.items site }
+{
+    let place = heads[site as usize];
+    heads[site as usize] = backlog.due_after(site, place, known);
+}
+
+// The heads at which a message to a site begins.
+fn first_heads(
     alloc: Global,
-    count: usize,
-    times: &[u64],
+    backlog: &Backlog,
+    t: &TimeTable,
     to: SiteId,
-    log: &'a [Record],
-) -> Result<Vec<&'a Record>, AllocError>
-    requires square { length times.now ≡ count * count }
-    requires to { to < count }
-    requires origins { AreOf count log.now }
-    ensures { IfOk result (λ found. map (λ r. r.now) found.items ≡ due (at count times.now to) log.now) }
+) -> Result<Vec<usize>, AllocError>
+    requires count { t.now.count ≡ backlog.now.count }
+    requires to { to < backlog.now.count }
+    ensures { IfOk result (λ heads. IsStarted backlog.now (time_at t.now to) heads.items backlog.now.count) }
 {
-    let mut found = Vec::new(alloc);
-    for r in log {
-        if is_due(count, times, to, r) {
-            found.push(r)?;
-        }
+    let mut heads = Vec::with_capacity(alloc, backlog.count() as usize)?;
+    for k in 0..backlog.count() {
+        heads.push(backlog.first_due(k, known(t, to, k)))?;
     }
-    Ok(found)
+    Ok(heads)
 }
 
-fn copies(alloc: Global, records: &[&Record]) -> Result<Vec<Record>, AllocError>
-    ensures { IfOk result (λ copied. copied.items ≡ map (λ r. r.now) records.now) }
-{
-    let mut copied = Vec::with_capacity(alloc, records.len())?;
-    for r in records {
-        copied.push(r.copy()?)?;
-    }
-    Ok(copied)
+// What a message takes, and the heads that it leaves.
+#[derive(Drop)]
+pub(crate) struct Taken {
+    pub(crate) records: Vec<Record>,
+    pub(crate) heads: Vec<usize>,
 }
 
-/// The first of these records that a site made.
-#[tactic(auto, using(crate::proofs::Selected::first_drop))]
-fn first_of<'a>(records: &[&'a Record], site: u8) -> Option<&'a Record>
-    ensures { option_map (λ r. r.now) result ≡ find (λ r. nat_eq (origin r) site) (map (λ r. r.now) records.now) }
+// The first of the records that a site is not known to have.
+pub(crate) fn take_due(
+    alloc: Global,
+    backlog: &Backlog,
+    t: &TimeTable,
+    to: SiteId,
+) -> Result<Taken, AllocError>
+    requires count { t.now.count ≡ backlog.now.count }
+    requires to { to < backlog.now.count }
+    ensures { IfOk result (λ taken. IsFilled backlog.now (time_at t.now to) taken.records.items taken.heads.items) }
 {
-    for r in records {
-        if r.origin().number() == site {
-            return Some(r);
-        }
+    backlog.is_line();
+    let mut heads = first_heads(alloc, backlog, t, to)?;
+    let mut records = Vec::new(alloc);
+    while let Some(head) = next_head(backlog, &heads, records.len()) {
+        take_record(backlog, &mut records, head.arrival)?;
+        go_on(backlog, &mut heads, head.site, known(t, to, head.site));
     }
-    None
+    Ok(Taken { records, heads })
 }
 
-/// The earlier of what the sender knows and what comes just before the first record that was left off, in half
-/// microseconds.
-fn covered(known: u64, left: Option<&Record>) -> u64
-    ensures { result ≡ covered known (option_map (λ r. r.now) left.entry) }
+// The earlier of what the sender knows and what comes just before the first record that was left off, in half
+// microseconds.
+fn covered(known: u64, left: Option<Stamp>) -> u64
+    ensures { result ≡ covered_to known left }
 {
     match left {
-        Some(r) => r.own_time().half_micros().saturating_sub(1),
+        Some(stamp) => stamp.time.saturating_sub(1),
         None => known,
     }
 }
 
-/// Up to when a message tells of a site, in half microseconds.
-fn covered_at(count: usize, times: &[u64], own: SiteId, left: &[&Record], k: u8) -> u64
-    requires square { length times.now ≡ count * count }
-    requires own { own < count }
-    requires site { k < count }
-    ensures { result ≡ cover_at (at count times.now own) (map (λ r. r.now) left.now) k }
-{
-    let known = times[own.number() as usize * count + k as usize];
-    covered(known, first_of(left, k))
-}
-
-fn cover(
+// Up to when a message tells of each site, by the heads that it leaves.
+pub(crate) fn cover(
     alloc: Global,
-    count: usize,
-    times: &[u64],
+    backlog: &Backlog,
+    heads: &[usize],
+    t: &TimeTable,
     own: SiteId,
-    left: &[&Record],
 ) -> Result<Vec<u64>, AllocError>
-    requires square { length times.now ≡ count * count }
-    requires own { own < count }
-    requires few { count < 256 }
-    ensures { IfOk result (λ told. told.items ≡ map (cover_at (at count times.now own) (map (λ r. r.now) left.now)) (range_with_len 0 count)) }
+    requires count { t.now.count ≡ backlog.now.count }
+    requires own { own < backlog.now.count }
+    requires sized { length heads.now ≡ backlog.now.count }
+    ensures { IfOk result (λ told. told.items ≡ map (λ k. covered_to (time_at t.now own k) (head_of backlog.now heads.now k)) (range_with_len 0 backlog.now.count)) }
 {
-    let mut told = Vec::with_capacity(alloc, count)?;
-    for k in 0..count {
-        told.push(covered_at(count, times, own, left, k as u8))?;
+    let mut told = Vec::with_capacity(alloc, backlog.count() as usize)?;
+    for k in 0..backlog.count() {
+        told.push(covered(known(t, own, k), head_at(backlog, heads, k)))?;
     }
     Ok(told)
-}
-
-/// The records that are sent to a site, and the cover that goes with them.
-pub(crate) fn selected(
-    alloc: Global,
-    count: usize,
-    times: &[u64],
-    own: SiteId,
-    to: SiteId,
-    log: &[Record],
-) -> Result<(Records, Times), AllocError>
-    requires square { length times.now ≡ count * count }
-    requires own { own < count }
-    requires to { to < count }
-    requires few { count < 256 }
-    requires origins { AreOf count log.now }
-    ensures records { IfOk result (λ m. m.0 ≡ sent_records (at count times.now to) log.now) }
-    ensures cover { IfOk result (λ m. m.1 ≡ cover_of count (at count times.now own) (at count times.now to) log.now) }
-{
-    let due = due_records(alloc, count, times, to, log)?;
-    let first = MOST_RECORDS.min(due.len());
-    let records = copies(alloc, &due[..first])?;
-    let cover = cover(alloc, count, times, own, &due[first..])?;
-    Ok((Records::new(records), Times::new(cover)))
 }

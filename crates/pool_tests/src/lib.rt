@@ -1,6 +1,8 @@
-//! Tests of the versions and of the unfinished transactions that a site keeps, by their public calls alone.
+//! Tests of the versions, of the unfinished transactions and of the log that a site keeps, by their public calls alone.
 #![tactic(auto)]
 
+#[cfg(test)]
+mod exchange;
 #[cfg(test)]
 mod pools;
 #[cfg(test)]

@@ -1,17 +1,23 @@
-use Rattle.std.proofs.Common.{◌∙◌, ap, sym, true, false}
+use Rattle.std.proofs.Common.{◌∙◌, ap, sym, subst, true, false}
 use Rattle.helios_model.specs.Exchange.{is_unfinished}
-use Rattle.helios_model.specs.Settle.{settle}
-use Rattle.commit_rules.proofs.Kept.{accepted}
+use Rattle.site_ledger.specs.Ledger.{IsLedgerOf, log_in}
+use Rattle.commit_rules.proofs.Answering.{taken_at}
 use Rattle.commit_rules.proofs.requests.accept_asked.Goals as goal
 
 pub returns-then-holds-clause-answer : goal.returns-then-holds-clause-answer
 returns-then-holds-clause-answer c =
-    accepted c.args.parts.plan c.args.parts.node c.in_ok-settled.settled.node c.args.p c.id-id.result true
-    (ap (λ h. h.node) c.in_ok-settled.ensures ∙ ap (λ h. settle h.plan h.node) c.in_ok-entered.ensures.core) c.id-id.ensures
-    (sym (c.holds.ensures ∙ ap (λ log. is_unfinished log c.id-id.result) c.ledger.ensures) ∙ c.if-holds.true)
+    λ b is after.
+    let first = c.in_ok-entered.ensures.node b is after in
+    let last = c.in_ok-settled.ensures.node b first.stands in
+    taken_at b c.args.node c.in_ok-settled.settled c.in_ok-entered.entered c.args.p c.id-id.result true first c.in_ok-entered.ensures.place last c.id-id.ensures
+    (sym (c.holds.ensures.stands b (subst (IsLedgerOf b) (sym c.ledger.ensures) last.stands.ledger) ∙ ap (λ l. is_unfinished (log_in b l) c.id-id.result) c.ledger.ensures)
+    ∙ c.if-holds.true)
 
 pub returns-else-holds-clause-answer : goal.returns-else-holds-clause-answer
 returns-else-holds-clause-answer c =
-    accepted c.args.parts.plan c.args.parts.node c.in_ok-settled.settled.node c.args.p c.id-id.result false
-    (ap (λ h. h.node) c.in_ok-settled.ensures ∙ ap (λ h. settle h.plan h.node) c.in_ok-entered.ensures.core) c.id-id.ensures
-    (sym (c.holds.ensures ∙ ap (λ log. is_unfinished log c.id-id.result) c.ledger.ensures) ∙ c.if-holds.false)
+    λ b is after.
+    let first = c.in_ok-entered.ensures.node b is after in
+    let last = c.in_ok-settled.ensures.node b first.stands in
+    taken_at b c.args.node c.in_ok-settled.settled c.in_ok-entered.entered c.args.p c.id-id.result false first c.in_ok-entered.ensures.place last c.id-id.ensures
+    (sym (c.holds.ensures.stands b (subst (IsLedgerOf b) (sym c.ledger.ensures) last.stands.ledger) ∙ ap (λ l. is_unfinished (log_in b l) c.id-id.result) c.ledger.ensures)
+    ∙ c.if-holds.false)

@@ -1,38 +1,56 @@
-use Rattle.std.proofs.Common.{◌∙◌, ap, sym, subst}
-use Rattle.helios_model.specs.Spellable.{IsSpellableReply}
+use Rattle.std.proofs.Common.{◌≡◌, ◌+◌, ◌-◌, ◌^◌, arith, ap, length, min, sym, subst}
 use Rattle.helios_model.specs.Step.{MayBeAsked}
 use Rattle.commit_rules.specs.Core.{IsCoreOf}
-use Rattle.commit_rules.specs.Limits.{IsWithinLimits}
-use Rattle.commit_rules.proofs.SameSite.{step_site}
-use Rattle.commit_rules.proofs.Standing.{outcome_of}
-use Rattle.commit_rules.proofs.WithinLimits.{step_fine}
+use Rattle.commit_rules.proofs.Standing.{IsAt, IsEnd, base_of, core_still, parts_at, reply_still, stepped}
 use Rattle.commit_rules.proofs.rules.Core.step.Goals as goal
+
+pub answer-requires-clause-sound : goal.answer-requires-clause-sound
+answer-requires-clause-sound c =
+    let s = c.self.inside.node in
+    let n = c.self.invariant.0.node in
+    let at : IsAt s.plan n s = parts_at s c.self.inside.log_length s.plan n c.self.invariant.0.is c.self.invariant.1 c.self.invariant.2 in
+    record { base = base_of n s; is = at.stands; sound = at.within.node }
 
 pub invariant_of-core : goal.invariant_of-core
 invariant_of-core c =
-    let may = subst (λ core. MayBeAsked core.plan core.site c.args.entry.input) (sym c.self.view_is) c.requires in
-    let fine = step_fine c.self.inside.parts.plan c.self.inside.parts.node c.self.invariant c.args.entry may in
-    subst (λ plan. IsWithinLimits plan c.in_ok-parts.parts.node) (sym c.in_ok-parts.ensures.plan)
-    (subst (λ s. IsWithinLimits c.self.inside.parts.plan s.node) c.in_ok-parts.ensures.answer fine.node)
+    let s = c.self.inside.node in
+    let e = c.finish-node.ensures in
+    let end : IsEnd c.in_ok-answered.answered c.finish-node.result.0 c.finish-node.result.1 c.finish-node.result.2 =
+    record { added_is = e.added; commits_are = e.commits; none = e.fresh.0; kept = e.kept; stands = e.stands; table = e.table; place = e.place } in
+    let long : c.saturating_add.result ≡ min (c.self.inside.log_length + length c.finish-node.result.1) (2 ^ 64 - 1) = omega (arith, ap (λ xs. length xs) c.items.ensures) in
+    let may = subst (λ core. MayBeAsked core.plan core.site c.args.entry.input) (sym c.self.view_is) c.requires in (
+      core_still s c.in_ok-answered.answered c.finish-node.result.0 c.self.inside.log_length c.saturating_add.result c.args.entry c.in_ok-answered.reply
+          c.finish-node.result.1 c.finish-node.result.2 c.self.invariant.1 c.self.invariant.2
+          (record { answers = c.in_ok-answered.ensures.answer; place = c.in_ok-answered.ensures.place; end = end })
+          long c.a_step_keeps_limits.ensures may c.self.invariant.0,
+      e.fresh.0,
+      e.fresh.1,
+    )
 
 pub returns-clause-outcome : goal.returns-clause-outcome
 returns-clause-outcome c =
     λ plan n is.
-    outcome_of c.self.inside.parts c.in_ok-parts.parts c.args.entry c.in_ok-parts.reply c.in_ok-parts.added c.in_ok-parts.commits
-    c.in_ok-parts.ensures.answer c.in_ok-parts.ensures.plan c.in_ok-parts.ensures.added c.in_ok-parts.ensures.commits plan n
-    (subst (λ core. IsCoreOf core plan n) (sym c.self.view_is) is)
+    let s = c.self.inside.node in
+    let e = c.finish-node.ensures in
+    let end : IsEnd c.in_ok-answered.answered c.finish-node.result.0 c.finish-node.result.1 c.finish-node.result.2 =
+    record { added_is = e.added; commits_are = e.commits; none = e.fresh.0; kept = e.kept; stands = e.stands; table = e.table; place = e.place } in
+    let long : c.saturating_add.result ≡ min (c.self.inside.log_length + length c.finish-node.result.1) (2 ^ 64 - 1) = omega (arith, ap (λ xs. length xs) c.items.ensures) in
+    let may = subst (λ core. MayBeAsked core.plan core.site c.args.entry.input) (sym c.self.view_is) c.requires in
+    let told = stepped s c.in_ok-answered.answered c.finish-node.result.0 c.self.inside.log_length c.saturating_add.result c.args.entry c.in_ok-answered.reply
+    c.finish-node.result.1 c.finish-node.result.2 c.self.invariant.1 c.self.invariant.2
+    (record { answers = c.in_ok-answered.ensures.answer; place = c.in_ok-answered.ensures.place; end = end })
+    long c.a_step_keeps_limits.ensures may plan n (subst (λ core. IsCoreOf core plan n) (sym c.self.view_is) is) in
+    record { core = told.core; reply = told.reply; added = told.added; commits = told.commits }
 
 pub returns-clause-spelled : goal.returns-clause-spelled
 returns-clause-spelled c =
+    let s = c.self.inside.node in
+    let e = c.finish-node.ensures in
+    let end : IsEnd c.in_ok-answered.answered c.finish-node.result.0 c.finish-node.result.1 c.finish-node.result.2 =
+    record { added_is = e.added; commits_are = e.commits; none = e.fresh.0; kept = e.kept; stands = e.stands; table = e.table; place = e.place } in
+    let long : c.saturating_add.result ≡ min (c.self.inside.log_length + length c.finish-node.result.1) (2 ^ 64 - 1) = omega (arith, ap (λ xs. length xs) c.items.ensures) in
     let may = subst (λ core. MayBeAsked core.plan core.site c.args.entry.input) (sym c.self.view_is) c.requires in
-    let fine = step_fine c.self.inside.parts.plan c.self.inside.parts.node c.self.invariant c.args.entry may in
-    subst (λ s. IsSpellableReply s.reply) c.in_ok-parts.ensures.answer fine.reply
-
-pub returns-clause-plan : goal.returns-clause-plan
-returns-clause-plan c = c.in_ok-parts.ensures.plan ∙ ap (λ core. core.plan) c.self.view_is
-
-pub returns-clause-site : goal.returns-clause-site
-returns-clause-site c =
-    sym (ap (λ s. s.node.site) c.in_ok-parts.ensures.answer)
-    ∙ step_site c.self.inside.parts.plan c.self.inside.parts.node c.args.entry
-    ∙ ap (λ core. core.site) c.self.view_is
+    reply_still s c.in_ok-answered.answered c.finish-node.result.0 c.self.inside.log_length c.saturating_add.result c.args.entry c.in_ok-answered.reply
+    c.finish-node.result.1 c.finish-node.result.2 c.self.invariant.1 c.self.invariant.2
+    (record { answers = c.in_ok-answered.ensures.answer; place = c.in_ok-answered.ensures.place; end = end })
+    long c.a_step_keeps_limits.ensures c.each_reply_is_spellable.ensures may c.self.invariant.0

@@ -1,0 +1,10 @@
+pub mod Lists
+pub mod OpenOnes
+pub mod Asked
+pub mod Sound
+pub mod TakenSound
+pub mod Spelled
+pub mod ArrivedSound
+pub mod WithinLimits
+pub mod SameSite
+pub mod Arriving

@@ -1,0 +1,5 @@
+pub mod Front
+pub mod NextCommit
+pub mod Sent
+pub mod Steps
+pub mod Tables
