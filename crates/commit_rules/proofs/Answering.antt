@@ -18,7 +18,7 @@ use Rattle.helios_model.specs.Settle.{settle}
 use Rattle.helios_model.specs.Step.{by_clock, is_journaled, step}
 use Rattle.helios_model.specs.Transactions.{Asking, Transaction, conflict}
 use Rattle.site_ledger.specs.Ledger.{Base, log_in}
-use Rattle.site_node.specs.Node.{BecomesAt, IsNodeOf, IsSamePlace, SiteData, node_in}
+use Rattle.site_node.specs.Node.{BecomesAt, IsNodeOf, SiteData, node_in}
 use Rattle.commit_rules.specs.Answers.{AnswersAt}
 use Rattle.commit_rules.proofs.Asked.{asked_clash, refusal_parts}
 use Rattle.commit_rules.proofs.Taken.{accepted}
@@ -57,14 +57,9 @@ module _ (b : Base) (s after : SiteData) where
   }
 
   -- a request that was taken
-  pub taken_at : (middle : SiteData) (p : Transaction) (id : TxnId) (open_one : Bool) → BecomesAt b s middle (λ n. entered s.plan n p) → IsSamePlace s middle
-      → BecomesAt b middle after (settle middle.plan) → id ≡ p.id → is_unfinished (log_in b after.ledger) id ≡ open_one
-      → AnswersAt b s after (cond open_one (Prepared id) (Committed id)) (λ n. accept s.plan n p)
-  taken_at middle p id open_one first place last named look = record {
-    stands = last.stands;
-    answer = accepted s.plan (node_in b s) (node_in b after) p id open_one
-        (last.node ∙ ap (λ plan. settle plan (node_in b middle)) place.plan ∙ ap (settle s.plan) first.node) named look;
-  }
+  pub taken_at : (p : Transaction) (id : TxnId) (open_one : Bool) → BecomesAt b s after (λ n. settle s.plan (entered s.plan n p)) → id ≡ p.id
+      → is_unfinished (log_in b after.ledger) id ≡ open_one → AnswersAt b s after (cond open_one (Prepared id) (Committed id)) (λ n. accept s.plan n p)
+  taken_at p id open_one h named look = record { stands = h.stands; answer = accepted s.plan (node_in b s) (node_in b after) p id open_one h.node named look }
 
   -- a request that no early rule refuses and no unfinished transaction stands against
   pub unopposed_at : (reading : ℕ) (ask : Asking) (p : Transaction) (reply : Reply) → p ≡ asked (log_in b s.ledger) (next_id s.plan (node_in b s) reading) ask

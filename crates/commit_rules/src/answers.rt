@@ -5,7 +5,7 @@ ghost use Rattle.helios_model.specs.Plans.{count_of};
 ghost use Rattle.helios_model.specs.Node.{is_spent};
 ghost use Rattle.helios_model.specs.Step.{MayBeAsked, by_clock, get, step};
 ghost use Rattle.site_ledger.specs.Ledger.{Base};
-ghost use Rattle.site_node.specs.Node.{HasSoundNode, IsNodeOf, IsSamePlace, node_in};
+ghost use Rattle.site_node.specs.Node.{HasNodeWithin, HasSoundNode, IsNodeOf, IsSamePlace, node_in};
 ghost use Rattle.commit_rules.specs.Answers.{Answers};
 
 use crate::requests::answer_request;
@@ -30,7 +30,7 @@ fn unless_spent_request(
     reading: u64,
     ask: Ask,
 ) -> Result<(SiteNode, Reply), AllocError>
-    requires { HasSoundNode node }
+    requires { HasNodeWithin node }
     ensures answer { IfOk result (λ t. Answers node t.0 t.1 (λ n. by_clock node.plan n reading (Input.Request ask) (is_spent node.plan n))) }
     ensures place { IfOk result (λ t. IsSamePlace node t.0) }
 {
@@ -75,7 +75,7 @@ fn unless_spent_push(
 
 /// Takes the node one step: the answer to an input, by the rules.
 pub(crate) fn answer(node: SiteNode, entry: Entry) -> Result<(SiteNode, Reply), AllocError>
-    requires sound { HasSoundNode node }
+    requires within { HasNodeWithin node }
     requires may { MayBeAsked node.plan node.ledger.site entry.input }
     ensures answer { IfOk result (λ t. Answers node t.0 t.1 (λ n. step node.plan n entry)) }
     ensures place { IfOk result (λ t. IsSamePlace node t.0) }

@@ -4,8 +4,8 @@ ghost use Rattle.std.specs.Option.{option_map, option_or};
 ghost use Rattle.helios_model.specs.Ids.{same_version};
 ghost use Rattle.helios_model.specs.Request.{accept, asked, clash_refusal, next_id, request, room_refusal, stale_refusal, unless_refused};
 ghost use Rattle.node_limits.specs.Limits.{IsAfter};
-ghost use Rattle.site_ledger.specs.Ledger.{Base, HasEarlier, log_in};
-ghost use Rattle.site_node.specs.Node.{HasSoundNode, IsNodeOf, IsSamePlace, clock_in, node_in};
+ghost use Rattle.site_ledger.specs.Ledger.{Base, log_in};
+ghost use Rattle.site_node.specs.Node.{HasNodeWithin, HasSoundNode, IsNodeOf, IsSamePlace, clock_in, node_in};
 ghost use Rattle.commit_rules.specs.Answers.{Answers, AnswersAt, is_stale_in, stale_reply_in, write_in};
 
 use helios_model::{
@@ -121,26 +121,25 @@ fn transaction_for(node: &SiteNode, reading: u64, ask: Ask) -> Result<Prepare, A
 /// Takes a transaction, commits what can commit, and tells whether it did.
 fn accept_asked(node: SiteNode, p: Prepare) -> Result<(SiteNode, Reply), AllocError>
     requires own { p.id.site ≡ node.ledger.site }
-    requires after { HasEarlier node.ledger (Record.Prepare p) }
-    requires later { clock_in node ≤ p.id.time }
+    requires within { HasNodeWithin node }
+    requires later { clock_in node < p.id.time }
     requires small { p.id.time ≤ 2 ^ 62 }
     ensures answer { IfOk result (λ t. (b : Base) → IsNodeOf b node → IsAfter (log_in b node.ledger) (Record.Prepare p) → AnswersAt b node t.0 t.1 (λ n. accept node.plan n p)) }
     ensures place { IfOk result (λ t. IsSamePlace node t.0) }
 {
     let id = p.id();
-    let entered = node.enter(p)?;
-    let settled = entered.settle()?;
-    if settled.ledger().holds(&id) {
-        Ok((settled, Reply::Prepared(id)))
+    let accepted = node.accept(p)?;
+    if accepted.ledger().holds(&id) {
+        Ok((accepted, Reply::Prepared(id)))
     } else {
-        Ok((settled, Reply::Committed(id)))
+        Ok((accepted, Reply::Committed(id)))
     }
 }
 
 /// Answers a request that no early rule refuses: by the first conflict, or by taking it.
 fn answer_unrefused(node: SiteNode, reading: u64, ask: Ask) -> Result<(SiteNode, Reply), AllocError>
     requires clock { clock_in node < 2 ^ 62 }
-    requires sound { HasSoundNode node }
+    requires within { HasNodeWithin node }
     ensures answer { IfOk result (λ t. Answers node t.0 t.1 (λ n. unless_refused node.plan n (asked n.log (next_id node.plan n reading) ask) (clash_refusal n.log ask))) }
     ensures place { IfOk result (λ t. IsSamePlace node t.0) }
 {
@@ -159,7 +158,7 @@ pub(crate) fn answer_request(
     ask: Ask,
 ) -> Result<(SiteNode, Reply), AllocError>
     requires clock { clock_in node < 2 ^ 62 }
-    requires sound { HasSoundNode node }
+    requires within { HasNodeWithin node }
     ensures answer { IfOk result (λ t. Answers node t.0 t.1 (λ n. request node.plan n reading ask)) }
     ensures place { IfOk result (λ t. IsSamePlace node t.0) }
 {

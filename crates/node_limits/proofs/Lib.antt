@@ -5,6 +5,7 @@ pub mod Sound
 pub mod TakenSound
 pub mod Spelled
 pub mod ArrivedSound
+pub mod Waiting
 pub mod WithinLimits
 pub mod SameSite
 pub mod Arriving

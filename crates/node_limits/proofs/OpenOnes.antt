@@ -48,7 +48,7 @@ and_turned true false = refl
 and_turned false true = refl
 and_turned false false = refl
 
-filters_turned : {X : Type 0} (p q : X → Bool) (xs : List X) → filter p (filter q xs) ≡ filter q (filter p xs)
+pub filters_turned : {X : Type 0} (p q : X → Bool) (xs : List X) → filter p (filter q xs) ≡ filter q (filter p xs)
 filters_turned p q xs =
     filter_twice p q xs ∙ filter_agree (λ x. q x && p x) (λ x. p x && q x) (λ x. and_turned (q x) (p x)) xs ∙ sym (filter_twice q p xs)
 
@@ -85,26 +85,31 @@ foreign_prepare site log p other =
 abbrev pub is_none_of : List TxnId → Transaction → Bool
 is_none_of ids p = not (list_any (λ id. same_id id p.id) ids)
 
+pub none_ended : (ps : List Transaction) → filter (is_none_of []) ps ≡ ps
+none_ended [] = refl
+none_ended (p ∷ ps) = ap (λ qs. p ∷ qs) (none_ended ps)
+
+-- the first of the ids is ended, then the others
+pub one_ended : (id : TxnId) (ids : List TxnId) (ps : List Transaction) → filter (is_none_of ids) (filter (λ p. not (same_id id p.id)) ps) ≡ filter (is_none_of (id ∷ ids)) ps
+one_ended id ids ps =
+    filter_twice (is_none_of ids) (λ p. not (same_id id p.id)) ps
+    ∙ sym (filter_agree (is_none_of (id ∷ ids)) (λ p. not (same_id id p.id) && is_none_of ids p) (λ p. not_or (same_id id p.id) (list_any (λ x. same_id x p.id) ids)) ps)
+
 pub own_aborted : (site : ℕ) (cause : TxnId) (a : Intake) (ids : List TxnId) → own_in site (fold (abort_one cause) a ids).log ≡ filter (is_none_of ids) (own_in site a.log)
-own_aborted site cause a [] = sym (all_kept (own_in site a.log))
-  where
-    all_kept : (ps : List Transaction) → filter (is_none_of []) ps ≡ ps
-    all_kept [] = refl
-    all_kept (p ∷ ps) = ap (λ qs. p ∷ qs) (all_kept ps)
+own_aborted site cause a [] = sym (none_ended (own_in site a.log))
 own_aborted site cause a (id ∷ ids) =
     own_aborted site cause (abort_one cause a id) ids
     ∙ ap (filter (is_none_of ids)) (own_end site a.log (Abort id (a.clock + 1) cause) refl)
-    ∙ filter_twice (is_none_of ids) (λ p. not (same_id id p.id)) (own_in site a.log)
-    ∙ sym (filter_agree (is_none_of (id ∷ ids)) (λ p. not (same_id id p.id) && is_none_of ids p) (λ p. not_or (same_id id p.id) (list_any (λ x. same_id x p.id) ids)) (own_in site a.log))
+    ∙ one_ended id ids (own_in site a.log)
 
 pub same_itself : (id : TxnId) → same_id id id ≡ true
 same_itself id = rw (eq-eqb id.site id.site refl, eq-eqb id.time id.time refl) refl
 
 -- the ids hold that of each transaction that passes the test
-abbrev IsAmong : (Transaction → Bool) → List TxnId → Transaction → Type 0
+abbrev pub IsAmong : (Transaction → Bool) → List TxnId → Transaction → Type 0
 IsAmong c ids p = c p ≡ true → list_any (λ id. same_id id p.id) ids ≡ true
 
-among : (c : Transaction → Bool) (ps : List Transaction) → All (IsAmong c (map (λ q. q.id) (filter c ps))) ps
+pub among : (c : Transaction → Bool) (ps : List Transaction) → All (IsAmong c (map (λ q. q.id) (filter c ps))) ps
 among c [] = All-nil (IsAmong c [])
 among c (p ∷ ps) = by_test (cases_Bool (c p)) (among c ps)
   where

@@ -1,5 +1,5 @@
 -- Each step keeps a node within the limits, and its answer has a spelling.
-use Rattle.std.proofs.Common.{◌≡◌, refl, subst, ℕ, ◌+◌, ◌*◌, ◌<◌, ◌≤◌, Bool, true, false, ◌&&◌, Option, Some, None, List, [], ◌∷◌, ◌++◌, length, get_or, map, max, nat_le, cond, not, All, arith, le_trans}
+use Rattle.std.proofs.Common.{◌≡◌, ◌∙◌, refl, subst, ℕ, ◌+◌, ◌*◌, ◌<◌, ◌≤◌, Bool, true, false, ◌&&◌, Option, Some, None, List, [], ◌∷◌, ◌++◌, length, get_or, map, max, nat_le, cond, not, All, arith, le_trans}
 use Rattle.std.specs.Option.{option_map, option_or}
 use Rattle.std.proofs.lemmas.Nat.{mul-add-lt}
 use Rattle.std.proofs.lemmas.List.{get_or-replicate, get_or-set_same, length-replicate}
@@ -32,6 +32,7 @@ use Rattle.node_limits.proofs.Lists.{OnFound, found_holds}
 use Rattle.node_limits.proofs.OpenOnes.{own_prepare}
 use Rattle.node_limits.proofs.Sound.{IsEnded, clock_put, node_put, own_place, prepares_spelled, ready_few, settled, sound_later, sound_own}
 use Rattle.node_limits.proofs.ArrivedSound.{IsArrived, arrived_sound}
+use Rattle.node_limits.proofs.Waiting.{advanced_ready, settled_waits}
 use Rattle.node_limits.proofs.Spelled.{message_spelled, status_spelled, value_spelled, version_spelled, widened}
 
 -- a node within the limits, and an answer that has a spelling
@@ -106,7 +107,7 @@ module _ (plan : PlanData) (n : Node) (h : IsWithinLimits plan n) where
       let last : clock plan (settle plan m) ≡ clock plan m + length (ready plan m) = ended.timed in
       let left : length (own_open (settle plan m)) ≤ length (own_open m) = ended.fewer_open in
       record {
-        node = record { few = h.few; node = ended.node; few_open = omega arith; low_clock = omega arith };
+        node = record { few = h.few; node = ended.node; few_open = omega arith; low_clock = omega arith; waits = settled_waits plan m };
         reply = cond_both (finished (settle plan m).log id) (Committed id) (Prepared id) IsSpellableReply
             (λ _. widened (count_of plan) id h.few named) (λ _. widened (count_of plan) id h.few named);
       }
@@ -148,7 +149,7 @@ module _ (plan : PlanData) (n : Node) (h : IsWithinLimits plan n) where
       let a : IsAdvanced m = advanced_sound reading below in
       let low : clock plan m < spent_time = a.low in
       record {
-        node = record { few = h.few; node = a.node; few_open = h.few_open; low_clock = omega arith };
+        node = record { few = h.few; node = a.node; few_open = h.few_open; low_clock = omega arith; waits = advanced_ready plan n reading ∙ h.waits };
         reply = message_spelled plan m to h.few a.node other;
       }
 
@@ -166,7 +167,7 @@ module _ (plan : PlanData) (n : Node) (h : IsWithinLimits plan n) where
       let some : length (ready plan r) ≤ length (own_open r) = ready_few plan r in
       let timed : clock plan (settle plan r) ≡ clock plan r + length (ready plan r) = ended.timed in
       record {
-        node = record { few = h.few; node = ended.node; few_open = le_trans ended.fewer_open few_left; low_clock = omega arith };
+        node = record { few = h.few; node = ended.node; few_open = le_trans ended.fewer_open few_left; low_clock = omega arith; waits = settled_waits plan r };
         reply = tt;
       }
 
@@ -214,4 +215,5 @@ empty_within plan site few here =
       };
       few_open = omega arith;
       low_clock = omega arith;
+      waits = refl;
     }

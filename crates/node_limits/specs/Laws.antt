@@ -1,5 +1,5 @@
 -- What holds of every node within the limits, and of which transactions are unfinished in a log.
-use Rattle.std.specs.Prelude.{◌≡◌, ◌≢◌, ℕ, ◌<◌, ◌≤◌, not, List, [], ◌∷◌, ◌++◌, None, filter, All}
+use Rattle.std.specs.Prelude.{◌≡◌, ◌≢◌, ℕ, ◌<◌, ◌≤◌, not, List, [], ◌∷◌, ◌++◌, None, filter, All, if◌then◌else◌}
 use Rattle.helios_model.specs.declared.entries.Entry.{Entry}
 use Rattle.helios_model.specs.declared.ids.TxnId.{TxnId}
 use Rattle.helios_model.specs.declared.records.Record.{Record}
@@ -8,7 +8,8 @@ use Rattle.helios_model.specs.Limits.{most_sites}
 use Rattle.helios_model.specs.Log.{current, current_value, ends, finished, is_own, origin, own_time, prepare_in, unfinished}
 use Rattle.helios_model.specs.Node.{Node, clock, empty_node, known, with_clock}
 use Rattle.helios_model.specs.Plans.{PlanData, count_of}
-use Rattle.helios_model.specs.Request.{asked}
+use Rattle.helios_model.specs.Request.{asked, entered}
+use Rattle.helios_model.specs.Settle.{is_reached, ready}
 use Rattle.helios_model.specs.Spellable.{IsSpellableReply, IsSpellableVersion}
 use Rattle.helios_model.specs.Step.{MayBeAsked, step}
 use Rattle.helios_model.specs.Texts.{IsValue}
@@ -68,3 +69,9 @@ EndLeavesTheOtherOwn = (site : ℕ) (log : List Record) (r : Record) → prepare
 -- where the node's own time changes, what it knows of the others stays
 abbrev pub ClockLeavesOtherTimes : Type 0
 ClockLeavesOtherTimes = (plan : PlanData) (n : Node) (time k : ℕ) → k ≢ n.site → known plan (with_clock plan n time) n.site k ≡ known plan n n.site k
+
+-- in a node within the limits that takes a new own transaction, made after all that its log has of the site, none of its own
+-- open ones commits but the new one, where the node has heard so far
+abbrev pub NewOneAloneMayCommit : Type 0
+NewOneAloneMayCommit = (plan : PlanData) (n : Node) (p : Transaction) → IsWithinLimits plan n → p.id.site ≡ n.site → IsAfter n.log (Prepare p)
+    → ready plan (entered plan n p) ≡ (if is_reached plan n p.id.time then p.id ∷ [] else [])

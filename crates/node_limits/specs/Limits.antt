@@ -1,5 +1,5 @@
 -- What every core keeps, so that whatever it tells has a spelling.
-use Rattle.std.specs.Prelude.{◌≡◌, ◌≢◌, ℕ, ◌-◌, ◌*◌, ◌^◌, ◌<◌, ◌≤◌, List, length, All, false}
+use Rattle.std.specs.Prelude.{◌≡◌, ◌≢◌, ℕ, ◌-◌, ◌*◌, ◌^◌, ◌<◌, ◌≤◌, List, [], length, All, false}
 use Rattle.helios_model.specs.declared.records.Record.{Record}
 use Rattle.helios_model.specs.Limits.{last_time, most_open, most_sites}
 use Rattle.helios_model.specs.Log.{origin, own_time}
@@ -7,6 +7,7 @@ use Rattle.helios_model.specs.Exchange.{is_passed}
 use Rattle.helios_model.specs.Spellable.{IsSpellableRecord, OwnTimesRiseByOrigin}
 use Rattle.helios_model.specs.Plans.{PlanData, count_of}
 use Rattle.helios_model.specs.Node.{Node, clock, known, own_open}
+use Rattle.helios_model.specs.Settle.{ready}
 
 -- the greatest time that a site's clock comes to
 abbrev pub highest_clock : ℕ
@@ -26,12 +27,13 @@ pub record IsSoundNode (plan : PlanData) (n : Node) : Type 0 where
   pub small : All (λ time. time ≤ last_time) n.table
   pub sound : IsSound (count_of plan) n.site (clock plan n) (known plan n n.site) n.log
 
--- the same with few open transactions and a clock that leaves room for their ends
+-- the same with few open transactions, a clock that leaves room for their ends, and no own open one that could commit
 pub record IsWithinLimits (plan : PlanData) (n : Node) : Type 0 where
   pub few : count_of plan ≤ most_sites
   pub node : IsSoundNode plan n
   pub few_open : length (own_open n) ≤ most_open
   pub low_clock : clock plan n ≤ highest_clock
+  pub waits : ready plan n ≡ []
 
 -- each record of the log of the same origin was made before
 abbrev pub IsAfter : List Record → Record → Type 0

@@ -1,5 +1,5 @@
 //! What holds of nodes within the limits, and of the transactions that are unfinished in a log.
-ghost use Rattle.node_limits.specs.Laws.{ArrivingRecordsMayBeTaken, AskedIsTransaction, ClockLeavesOtherTimes, CurrentValueIsValue, CurrentVersionIsSpellable, EmptyNodeIsWithinLimits, EndLeavesTheOtherOwn, EndLeavesTheRest, OwnRecordComesAfter, PrepareWaitsBehindTheRest, ReplyIsSpellable, StepKeepsLimits, StepKeepsSite};
+ghost use Rattle.node_limits.specs.Laws.{ArrivingRecordsMayBeTaken, AskedIsTransaction, ClockLeavesOtherTimes, CurrentValueIsValue, CurrentVersionIsSpellable, EmptyNodeIsWithinLimits, EndLeavesTheOtherOwn, EndLeavesTheRest, NewOneAloneMayCommit, OwnRecordComesAfter, PrepareWaitsBehindTheRest, ReplyIsSpellable, StepKeepsLimits, StepKeepsSite};
 
 /// The node of a site that has heard and done nothing is within the limits.
 #[tactic(auto, using(crate::proofs::WithinLimits::empty_within))]
@@ -74,4 +74,11 @@ pub fn an_end_leaves_the_other_own()
 #[tactic(auto, using(crate::proofs::Sound::known_put))]
 pub fn a_clock_leaves_other_times()
     ensures { ClockLeavesOtherTimes }
+{}
+
+/// In a node within the limits that takes a new own transaction, none of its own open ones commits but the new one, where the
+/// node has heard so far.
+#[tactic(auto, using(crate::proofs::Waiting::new_alone))]
+pub fn a_new_one_alone_may_commit()
+    ensures { NewOneAloneMayCommit }
 {}

@@ -55,7 +55,7 @@ all_kept t (x ∷ xs) h =
     let here : t x ≡ true = All-head (λ y. t y ≡ true) x xs h in
     rw here (ap (λ ys. x ∷ ys) (all_kept t xs (All-tail (λ y. t y ≡ true) x xs h)))
 
-same_itself : (id : TxnId) → same_id id id ≡ true
+pub same_itself : (id : TxnId) → same_id id id ≡ true
 same_itself id = let site : nat_eq id.site id.site ≡ true = nat_itself id.site in let time : nat_eq id.time id.time ≡ true = nat_itself id.time in rw (site, time) refl
   where
     nat_itself : (n : ℕ) → nat_eq n n ≡ true

@@ -1,3 +1,4 @@
+pub mod Accepting
 pub mod Front
 pub mod NextCommit
 pub mod Sent

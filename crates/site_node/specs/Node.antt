@@ -5,7 +5,7 @@ use Rattle.helios_model.specs.Plans.{PlanData, count_of}
 use Rattle.helios_model.specs.Node.{Node}
 use Rattle.log_exchange.specs.Kept.{needed}
 use Rattle.site_ledger.specs.Ledger.{Base, IsLedgerOf, LedgerData, log_in}
-use Rattle.node_limits.specs.Limits.{IsSoundNode}
+use Rattle.node_limits.specs.Limits.{IsSoundNode, IsWithinLimits}
 
 -- the plan, the site's table of times row after row, and its ledger
 pub record SiteData : Type 0 where
@@ -48,6 +48,12 @@ pub record HasSoundNode (s : SiteData) : Type 0 where
   pub base : Base
   pub is : IsNodeOf base s
   pub sound : IsSoundNode s.plan (node_in base s)
+
+-- there is a node for which the parts stand that is within the limits
+pub record HasNodeWithin (s : SiteData) : Type 0 where
+  pub base : Base
+  pub is : IsNodeOf base s
+  pub within : IsWithinLimits s.plan (node_in base s)
 
 -- the parts are of the same plan and site
 pub record IsSamePlace (before after : SiteData) : Type 0 where

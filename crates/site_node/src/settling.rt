@@ -1,15 +1,20 @@
 //! What commits: own unfinished transactions, from the first on.
-ghost use Rattle.std.specs.Prelude.{◌≡◌, ◌<◌, [], IfOk, MatchOption, true};
+ghost use Rattle.std.specs.Prelude.{◌≡◌, ◌^◌, ◌<◌, ◌≤◌, [], IfOk, MatchOption, true};
 ghost use Rattle.helios_model.specs.Plans.{count_of};
+ghost use Rattle.helios_model.specs.Request.{entered};
 ghost use Rattle.helios_model.specs.Settle.{commit_one, ready, settle};
-ghost use Rattle.site_ledger.specs.Ledger.{Base, holds_id};
-ghost use Rattle.site_node.specs.Node.{Becomes, IsBounded, IsNodeOf, IsSamePlace, node_in};
+ghost use Rattle.node_limits.specs.Limits.{IsAfter};
+ghost use Rattle.site_ledger.specs.Ledger.{Base, holds_id, log_in};
+ghost use Rattle.site_node.specs.Node.{Becomes, BecomesAt, HasNodeWithin, IsBounded, IsNodeOf, IsSamePlace, clock_in, node_in};
 ghost use Rattle.site_node.specs.Settling.{CommitsFirst, is_heard_in, is_reached_in};
 
 use crate::node::SiteNode;
-use helios_model::{SiteId, Time, TxnId};
+use helios_model::{Prepare, Record, SiteId, Time, TxnId};
 use log_exchange::fewer_are_needed;
-use node_limits::{a_clock_leaves_other_times, an_end_leaves_the_other_own};
+use node_limits::{
+    a_clock_leaves_other_times, a_new_one_alone_may_commit, an_end_leaves_the_other_own,
+    own_records_come_after,
+};
 use std::alloc::AllocError;
 
 impl SiteNode {
@@ -99,5 +104,26 @@ impl SiteNode {
             }
         }
         Ok(node)
+    }
+
+    /// Appends a transaction of its own and commits what can commit: of a node within the limits this is the new one or none.
+    pub fn accept(self, p: Prepare) -> Result<SiteNode, AllocError>
+        requires own { p.id.site ≡ self.ledger.site }
+        requires within { HasNodeWithin self }
+        requires later { clock_in self < p.id.time }
+        requires small { p.id.time ≤ 2 ^ 62 }
+        ensures node { IfOk result (λ s. (b : Base) → IsNodeOf b self → IsAfter (log_in b self.ledger) (Record.Prepare p) → BecomesAt b self s (λ n. settle self.plan (entered self.plan n p))) }
+        ensures place { IfOk result (λ s. IsSamePlace self s) }
+    {
+        a_new_one_alone_may_commit();
+        own_records_come_after();
+        let id = p.id();
+        let commits = self.is_reached(id.time.half_micros());
+        let entered = self.enter(p)?;
+        if commits {
+            let settled = entered.commit(&id)?;
+            return Ok(settled);
+        }
+        Ok(entered)
     }
 }

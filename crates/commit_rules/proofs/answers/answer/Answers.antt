@@ -36,3 +36,9 @@ returns-in-Push-clause-answer c =
     (λ t. Answers s t.0 t.1 (λ n. by_clock s.plan n c.args.entry.reading (Push c.in-Push.m) (is_spent s.plan n)))
     (λ t. Answers s t.0 t.1 (λ n. step s.plan n c.args.entry))
     (λ t h b is sound. entry_at b s t.0 t.1 c.args.entry (Push c.in-Push.m) c.in-Push.is (h b is sound)) c.unless_spent_push.ensures.answer
+
+pub answer_get-requires : goal.answer_get-requires
+answer_get-requires c = let h = c.requires.within in record { base = h.base; is = h.is; sound = h.within.node }
+
+pub unless_spent_push-requires-clause-sound : goal.unless_spent_push-requires-clause-sound
+unless_spent_push-requires-clause-sound c = let h = c.requires.within in record { base = h.base; is = h.is; sound = h.within.node }

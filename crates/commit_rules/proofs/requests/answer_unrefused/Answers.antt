@@ -30,3 +30,6 @@ returns-in-None-clause-answer c =
     ∙ ap (λ l. option_map (λ q. q.id) (find (conflict c.in_ok-p.p) (unfinished (log_in b l)))) c.ledger.ensures)
     (h b is (c.own_records_come_after.ensures s.plan (node_in b s) (Prepare c.in_ok-p.p) sound c.in_ok-p.ensures.own c.in_ok-p.ensures.above)))
     c.accept_asked.ensures.answer
+
+pub transaction_for-requires-clause-sound : goal.transaction_for-requires-clause-sound
+transaction_for-requires-clause-sound c = let h = c.requires.within in record { base = h.base; is = h.is; sound = h.within.node }

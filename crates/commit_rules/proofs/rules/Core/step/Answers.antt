@@ -4,12 +4,12 @@ use Rattle.commit_rules.specs.Core.{IsCoreOf}
 use Rattle.commit_rules.proofs.Standing.{IsAt, IsEnd, base_of, core_still, parts_at, reply_still, stepped}
 use Rattle.commit_rules.proofs.rules.Core.step.Goals as goal
 
-pub answer-requires-clause-sound : goal.answer-requires-clause-sound
-answer-requires-clause-sound c =
+pub answer-requires-clause-within : goal.answer-requires-clause-within
+answer-requires-clause-within c =
     let s = c.self.inside.node in
     let n = c.self.invariant.0.node in
     let at : IsAt s.plan n s = parts_at s c.self.inside.log_length s.plan n c.self.invariant.0.is c.self.invariant.1 c.self.invariant.2 in
-    record { base = base_of n s; is = at.stands; sound = at.within.node }
+    record { base = base_of n s; is = at.stands; within = at.within }
 
 pub invariant_of-core : goal.invariant_of-core
 invariant_of-core c =
