@@ -10,3 +10,5 @@ pub mod MessageFields
 pub mod Asked
 pub mod EntryAgain
 pub mod EntryTaken
+pub mod Kept
+pub mod MostLengths

@@ -43,6 +43,17 @@ IsWritableInput (Push m) = IsSpellableMessage m
 abbrev pub IsWritable : Entry → Type 0
 IsWritable e = IsWritableInput e.input
 
+-- what a writer of the journaled entries among some takes: a message among them within its limits
+abbrev pub MayBeWrittenInput : Input → Type 0
+MayBeWrittenInput (Get key) = Unit {0}
+MayBeWrittenInput (Status id) = Unit {0}
+MayBeWrittenInput (Request ask) = Unit {0}
+MayBeWrittenInput (Pull to) = Unit {0}
+MayBeWrittenInput (Push m) = IsSpellableMessage m
+
+abbrev pub MayBeWritten : Entry → Type 0
+MayBeWritten e = MayBeWrittenInput e.input
+
 -- from one to sixteen entries of so many sites
 pub record IsSpellableBatch (count : ℕ) (entries : List Entry) : Type 0 where
   pub some : 1 ≤ length entries

@@ -1,9 +1,12 @@
 //! Entries and batches: the one spelling of each, and their reader.
-ghost use Rattle.std.specs.Prelude.{◌≡◌, ◌++◌, ◌≤◌, [], All, length, IfOk, OnOk};
+ghost use Rattle.std.specs.Prelude.{◌≡◌, ◌++◌, ◌^◌, ◌<◌, ◌≤◌, ◌∷◌, [], All, length, IfOk, OnOk};
+ghost use Rattle.std.specs.List.{flat_map};
 ghost use Rattle.helios_model.specs.Limits.{most_inputs, most_sites};
 ghost use Rattle.helios_model.specs.Spellable.{IsSpellableEntry};
+ghost use Rattle.helios_model.specs.Step.{is_journaled};
+ghost use Rattle.helios_model.specs.World.{journaled};
 ghost use Rattle.log_records.specs.Decoding.{Decodes, Gives, Takes, TakesAs};
-ghost use Rattle.log_records.specs.Entries.{IsSpellableBatch, IsWritable, IsWritableInput, batch_bytes, batch_of, entries_at, entry_at, entry_bytes, input_at, input_bytes, pull_at, push_at, request_at};
+ghost use Rattle.log_records.specs.Entries.{IsSpellableBatch, IsWritable, IsWritableInput, MayBeWritten, batch_bytes, batch_of, entries_at, entry_at, entry_bytes, input_at, input_bytes, pull_at, push_at, request_at};
 ghost use Rattle.log_records.specs.Fields.{each_after};
 
 use crate::asking::{ask_length, put_ask};
@@ -115,20 +118,33 @@ fn put_input(out: &mut Vec<u8>, input: &Input) -> Result<(), AllocError>
 
 fn put_entry(out: &mut Vec<u8>, e: &Entry) -> Result<(), AllocError>
     requires { IsWritable e.now }
-    ensures { OnOk result (out.new.items ≡ out.old.items ++ entry_bytes e.now) }
+    ensures reading { e.now.reading < 2 ^ 64 }
+    ensures written { OnOk result (out.new.items ≡ out.old.items ++ entry_bytes e.now) }
 {
     out.extend_from_slice(&e.reading.to_be_bytes())?;
     put_input(out, &e.input)
 }
 
-fn put_batch(out: &mut Vec<u8>, entries: &[Entry]) -> Result<(), AllocError>
-    requires few { length entries.now ≤ most_inputs }
-    requires writable { All IsWritable entries.now }
-    ensures { OnOk result (out.new.items ≡ out.old.items ++ batch_bytes entries.now) }
+/// Whether a journal keeps an input.
+fn is_journaled(input: &Input) -> bool
+    ensures { result ≡ is_journaled input.now }
 {
-    out.push(entries.len() as u8)?;
+    match input {
+        Input::Get(_) | Input::Status(_) => false,
+        Input::Request(_) | Input::Pull(_) | Input::Push(_) => true,
+    }
+}
+
+/// Writes each of those entries in turn that a journal keeps.
+fn put_kept(out: &mut Vec<u8>, entries: &[Entry]) -> Result<(), AllocError>
+    requires { All MayBeWritten entries.now }
+    ensures readings { OnOk result (All (λ e. e.reading < 2 ^ 64) (journaled entries.now)) }
+    ensures written { OnOk result (out.new.items ≡ out.old.items ++ flat_map entry_bytes (journaled entries.now)) }
+{
     for e in entries {
-        put_entry(out, e)?;
+        if is_journaled(&e.input) {
+            put_entry(out, e)?;
+        }
     }
     Ok(())
 }
@@ -154,17 +170,17 @@ fn entry_length(e: &Entry) -> usize
     8 + input_length(&e.input)
 }
 
-fn batch_length(entries: &[Entry]) -> usize
-    requires few { length entries.now ≤ most_inputs }
-    requires writable { All IsWritable entries.now }
-    ensures value { result ≡ length (batch_bytes entries.now) }
-    ensures most { result ≤ 19415761 }
+/// How many bytes an entry adds to the spelling of a journal's batch.
+fn kept_length(e: &Entry) -> usize
+    requires { MayBeWritten e.now }
+    ensures value { result ≡ length (flat_map entry_bytes (journaled (e.now ∷ []))) }
+    ensures most { result ≤ 1213485 }
 {
-    let mut length = 1;
-    for e in entries {
-        length += entry_length(e);
+    if is_journaled(&e.input) {
+        entry_length(e)
+    } else {
+        0
     }
-    length
 }
 
 /// The one spelling of an entry, which has at most 1,213,485 bytes.
@@ -185,9 +201,51 @@ pub fn encode_batch(alloc: Global, es: &Entries) -> Result<Bytes, AllocError>
     ensures value { IfOk result (λ bytes. bytes ≡ batch_bytes es.now) }
     ensures most { IfOk result (λ bytes. length bytes ≤ 19415761) }
 {
+    encode_journaled(alloc, es)
+}
+
+/// How many of the entries a journal keeps.
+pub fn journaled_count(es: &Entries) -> usize
+    requires few { length es.now ≤ most_inputs }
+    ensures { result ≡ length (journaled es.now) }
+{
     let entries = es.items();
-    let mut out = Vec::with_capacity(alloc, batch_length(entries))?;
-    put_batch(&mut out, entries)?;
+    let mut count = 0;
+    for e in entries {
+        if is_journaled(&e.input) {
+            count += 1;
+        }
+    }
+    count
+}
+
+/// How many bytes the spelling of the batch of those entries has that a journal keeps.
+pub fn journaled_length(es: &Entries) -> usize
+    requires few { length es.now ≤ most_inputs }
+    requires written { All MayBeWritten es.now }
+    ensures value { result ≡ length (batch_bytes (journaled es.now)) }
+    ensures most { result ≤ 19415761 }
+{
+    let entries = es.items();
+    let mut length = 1;
+    for e in entries {
+        length += kept_length(e);
+    }
+    length
+}
+
+/// The one spelling of the batch of those entries that a journal keeps, which has at most 19,415,761 bytes.
+#[tactic(auto, using(crate::proofs::Kept::kept_few))]
+pub fn encode_journaled(alloc: Global, es: &Entries) -> Result<Bytes, AllocError>
+    requires few { length es.now ≤ most_inputs }
+    requires written { All MayBeWritten es.now }
+    ensures value { IfOk result (λ bytes. bytes ≡ batch_bytes (journaled es.now)) }
+    ensures readings { OnOk result (All (λ e. e.reading < 2 ^ 64) (journaled es.now)) }
+    ensures most { IfOk result (λ bytes. length bytes ≤ 19415761) }
+{
+    let mut out = Vec::with_capacity(alloc, journaled_length(es))?;
+    out.push(journaled_count(es) as u8)?;
+    put_kept(&mut out, es.items())?;
     Ok(Bytes::new(out))
 }
 

@@ -1,9 +1,10 @@
 //! What holds of the spellings themselves.
-ghost use Rattle.std.specs.Prelude.{◌≡◌, ◌<◌, ◌++◌, ℕ, List, [], All};
+ghost use Rattle.std.specs.Prelude.{◌≡◌, ◌<◌, ◌≤◌, ◌++◌, ℕ, List, [], All, length};
 ghost use Rattle.helios_model.specs.declared.records.Record.{Record};
 ghost use Rattle.helios_model.specs.declared.entries.Entry.{Entry};
 ghost use Rattle.helios_model.specs.declared.messages.Message.{Message};
-ghost use Rattle.helios_model.specs.Spellable.{IsSpellableEntry, IsSpellableMessage, IsSpellableRecord};
+ghost use Rattle.helios_model.specs.Limits.{most_inputs};
+ghost use Rattle.helios_model.specs.Spellable.{IsSpellableEntry, IsSpellableInput, IsSpellableMessage, IsSpellableRecord};
 ghost use Rattle.log_records.specs.declared.heads.Head.{Head};
 ghost use Rattle.log_records.specs.Entries.{IsSpellableBatch, IsWritable, batch_bytes, batch_of, entries_at, entry_at, entry_bytes};
 ghost use Rattle.log_records.specs.Heads.{head_bytes, head_of, IsSpellableHead};
@@ -78,6 +79,11 @@ pub fn entries_can_be_written()
 /// A batch that has a spelling can be written.
 pub fn batches_can_be_written()
     ensures { (count : ℕ) (entries : List Entry) → IsSpellableBatch count entries → All IsWritable entries }
+{}
+
+/// No batch has a spelling of more than 19,415,761 bytes.
+pub fn no_batch_is_longer()
+    ensures { (count : ℕ) (entries : List Entry) → length entries ≤ most_inputs → All (λ e. IsSpellableInput count e.input) entries → length (batch_bytes entries) ≤ 19415761 }
 {}
 
 /// No spelling of an entry begins the spelling of another one of so many sites.
