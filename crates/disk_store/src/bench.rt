@@ -52,7 +52,8 @@ impl Bench {
 
     /// Makes all disks empty, without scripts and without lists of failing calls. It takes no memory.
     pub fn clear(&mut self)
-        ensures { self.new ≡ map cleared self.old }
+        ensures cleared { self.new ≡ map cleared self.old }
+        ensures sites { length self.new ≡ most_sites }
     {
         for disk in self.disks.iter_mut() {
             disk.clear();

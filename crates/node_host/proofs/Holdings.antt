@@ -22,8 +22,8 @@ are_push plan site (p ∷ payloads) (b ∷ batches) payload batch are is = (are.
 -- a payload spells one batch
 pub same_batch : (plan : PlanData) (site : ℕ) (payload : List ℕ) (a b : List Entry) → IsBatchPayload plan site payload a → IsBatchPayload plan site payload b → a ≡ b
 same_batch plan site payload a b is is' =
-    let both : Ok a ≡ batch_of (count_of plan) payload = sym is.spelled in
-    let other : batch_of (count_of plan) payload ≡ Ok b = is'.spelled in
+    let both : Ok a ≡ batch_of (count_of plan) payload = sym is.read in
+    let other : batch_of (count_of plan) payload ≡ Ok b = is'.read in
     cc
 
 pub same_batches : (plan : PlanData) (site : ℕ) (payloads : List (List ℕ)) (xs ys : List (List Entry)) → AreBatches plan site payloads xs → AreBatches plan site payloads ys → xs ≡ ys

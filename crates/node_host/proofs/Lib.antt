@@ -4,3 +4,14 @@ pub mod Holdings
 pub mod Taking
 pub mod FirstHeads
 pub mod Reading
+pub mod Standing
+pub mod Beginning
+pub mod FirstFrames
+pub mod WholeOpenings
+pub mod Suffice
+pub mod Sealing
+pub mod Nodes
+pub mod Sizes
+pub mod Damages
+pub mod Stopped
+pub mod Readying

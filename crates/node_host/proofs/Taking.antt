@@ -41,7 +41,8 @@ ReadIsBatch = (count : ℕ) (bytes : List ℕ) (entries : List Entry) → All (�
 pub batch_read : ReadIsBatch → (plan : PlanData) (site count : ℕ) (payload : List ℕ) (entries : List Entry) → All (λ b. b < 256) payload
     → batch_of count payload ≡ Ok entries → All (λ e. IsForSite site e.input) entries → count_of plan ≡ count → IsBatchPayload plan site payload entries
 batch_read law plan site count payload entries bytes read here same = record {
-  spelled = ap (λ n. batch_of n payload) same ∙ read;
+  read = ap (λ n. batch_of n payload) same ∙ read;
+  spelled = (law count payload entries bytes read).1;
   each = λ k d low. asked_input plan site count (get_or entries k d).input same ((law count payload entries bytes read).0.each k d low).input (here k d low);
 }
 
@@ -49,14 +50,14 @@ batch_read law plan site count payload entries bytes read here same = record {
 pub none_read : (plan : PlanData) (site count : ℕ) (payload : List ℕ) (entries : List Entry)
     → batch_of count payload ≡ Ok entries → (All (λ e. IsForSite site e.input) entries → ⊥) → count_of plan ≡ count → IsNoBatch plan site payload
 none_read plan site count payload entries read away same batch is =
-    let there : batch_of count payload ≡ Ok batch = ap (λ n. batch_of n payload) (sym same) ∙ is.spelled in
+    let there : batch_of count payload ≡ Ok batch = ap (λ n. batch_of n payload) (sym same) ∙ is.read in
     let one : batch ≡ entries = let both : Ok batch ≡ Ok entries = sym there ∙ read in cc in
     away (subst (λ es. All (λ e. IsForSite site e.input) es) one (λ k d low. for_site plan site (get_or batch k d).input (is.each k d low)))
 
 -- the grammar refuses it, so it is no batch
 pub none_refused : (plan : PlanData) (site count : ℕ) (payload : List ℕ) → ((entries : List Entry) → batch_of count payload ≡ Ok entries → ⊥)
     → count_of plan ≡ count → IsNoBatch plan site payload
-none_refused plan site count payload none same batch is = none batch (ap (λ n. batch_of n payload) (sym same) ∙ is.spelled)
+none_refused plan site count payload none same batch is = none batch (ap (λ n. batch_of n payload) (sym same) ∙ is.read)
 
 pub recovered_push : (plan : PlanData) (site : ℕ) (batches : List (List Entry)) (batch : List Entry)
     → recovered plan site (batches ++ batch ∷ []) ≡ take_batch plan (recovered plan site batches) batch

@@ -1,5 +1,6 @@
 -- Which batches a site's journal holds.
-use Rattle.std.specs.Prelude.{◌≡◌, ℕ, List, [], ◌∷◌, Ok, All}
+use Rattle.std.specs.Prelude.{◌≡◌, ℕ, ◌+◌, List, [], ◌∷◌, length, Ok, All}
+use Rattle.std.specs.List.{sum_by}
 use Rattle.helios_model.specs.declared.entries.Entry.{Entry}
 use Rattle.helios_model.specs.Plans.{PlanData, count_of}
 use Rattle.helios_model.specs.Step.{MayBeAsked}
@@ -7,7 +8,7 @@ use Rattle.disk_store.specs.Disk.{DiskState, EachImage}
 use Rattle.node_journal.specs.Frames.{StandsFor}
 use Rattle.log_records.specs.declared.heads.Head.{Head}
 use Rattle.log_records.specs.Heads.{head_of}
-use Rattle.log_records.specs.Entries.{batch_of}
+use Rattle.log_records.specs.Entries.{batch_bytes, batch_of}
 use Rattle.commit_offsets.specs.Fingerprint.{fingerprint_of}
 
 -- what a site of a plan may be asked, one after the other
@@ -16,7 +17,8 @@ AreAsked plan site entries = All (λ e. MayBeAsked plan site e.input) entries
 
 -- the spelling of 1 to 16 journaled inputs, each of which this site may be asked
 pub record IsBatchPayload (plan : PlanData) (site : ℕ) (payload : List ℕ) (batch : List Entry) : Type 0 where
-  pub spelled : batch_of (count_of plan) payload ≡ Ok batch
+  pub read : batch_of (count_of plan) payload ≡ Ok batch
+  pub spelled : payload ≡ batch_bytes batch
   pub each : AreAsked plan site batch
 
 -- each payload spells the batch at its place
@@ -43,6 +45,15 @@ pub record HoldsBatches (plan : PlanData) (site : ℕ) (batches : List (List Ent
   pub payloads : List (List ℕ)
   pub stands : StandsFor image payloads
   pub journal : IsJournal plan site payloads batches
+
+-- how many bytes the frame of these entries adds to a journal: none where there are no entries
+abbrev pub frame_size : List Entry → ℕ
+frame_size [] = 0
+frame_size (e ∷ es) = length (batch_bytes (e ∷ es)) + 5
+
+-- where the journal of these batches ends: behind the frame of the head and the frame of each batch
+abbrev pub journal_size : List (List Entry) → ℕ
+journal_size batches = 39 + sum_by frame_size batches
 
 -- each image of the later disk holds the batches that the earlier one reads as
 abbrev pub KeepsBatches : PlanData → ℕ → DiskState → DiskState → Type 0

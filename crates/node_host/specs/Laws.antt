@@ -1,16 +1,26 @@
 -- Facts that follow from the definitions alone; each is the clause of a function of `laws`.
-use Rattle.std.specs.Prelude.{◌≡◌, ℕ, List, [], ◌∷◌, ◌++◌, length}
+use Rattle.std.specs.Prelude.{◌≡◌, ◌⊎◌, ◌≤◌, ℕ, nat_le, if◌then◌else◌, List, [], ◌∷◌, ◌++◌, length, Some, Err, option_map, Result, IfSome, IsErrOf}
 use Rattle.helios_model.specs.declared.entries.Entry.{Entry}
 use Rattle.helios_model.specs.Node.{Node}
 use Rattle.helios_model.specs.Plans.{PlanData}
 use Rattle.helios_model.specs.Step.{after_entries}
-use Rattle.helios_model.specs.World.{own_commits}
+use Rattle.helios_model.specs.World.{World, grown, journal_of, journaled, node_of, own_commits}
+use Rattle.disk_store.specs.Crash.{kept}
 use Rattle.disk_store.specs.Disk.{DiskState, EachImage, IsImage}
-use Rattle.node_journal.specs.Appending.{IsBeforeOrAfter}
+use Rattle.disk_store.specs.Memory.{MemState, keep_of, outlook_of}
+use Rattle.disk_store.specs.declared.fate.Script.{Script}
+use Rattle.node_journal.specs.Appending.{IsBeforeOrAfter, end_of, failed_state, is_kept}
 use Rattle.node_journal.specs.Frames.{StandsFor}
 use Rattle.node_journal.specs.Opening.{KeepsPayloads}
-use Rattle.node_host.specs.Journals.{HoldsBatches, IsBatchPayload, IsHeadOf, IsJournal, KeepsBatches}
+use Rattle.helios_model.specs.Limits.{most_inputs}
+use Rattle.node_host.specs.declared.fault.HostFault.{HostFault}
+use Rattle.node_host.specs.declared.fault.HostFault.TheVariants.{DiskFailed, NoMemory}
+use Rattle.node_host.specs.declared.host.Batched.{Batched}
+use Rattle.node_host.specs.Hosts.{HaveReadings, IsHostOn, payload_of}
+use Rattle.node_host.specs.Journals.{AreAsked, HoldsBatches, IsBatchPayload, IsHeadOf, IsJournal, KeepsBatches, journal_size}
+use Rattle.node_host.specs.Openings.{Opens}
 use Rattle.node_host.specs.Recovery.{recovered, take_batch}
+use Rattle.node_host.specs.States.{HostState}
 
 -- an image holds at most one list of batches
 abbrev pub OneHolding : Type 0
@@ -39,3 +49,32 @@ CommitsAreJoined = (plan : PlanData) (n : Node) (es fs : List Entry)
     → own_commits n.site (after_entries plan n es).log (length n.log)
     ++ own_commits (after_entries plan n es).site (after_entries plan (after_entries plan n es) fs).log (length (after_entries plan n es).log)
     ≡ own_commits n.site (after_entries plan n (es ++ fs)).log (length n.log)
+
+-- the gate of a host stands where the journal of its batches ends
+abbrev pub HostStandsAtItsEnd : Type 0
+HostStandsAtItsEnd = (host : HostState) (batches : List (List Entry)) (disk : DiskState) → IsHostOn host batches disk → host.gate ≡ journal_size batches
+
+-- entries that are not journaled leave the node as it is
+abbrev pub JournaledSuffice : Type 0
+JournaledSuffice = (plan : PlanData) (n : Node) (entries : List Entry) → after_entries plan n (journaled entries) ≡ after_entries plan n entries
+
+-- what the batches of a site's journal make is the site's node
+abbrev pub RecoveredIsNode : Type 0
+RecoveredIsNode = (plan : PlanData) (w : World) (site : ℕ) → (recovered plan site (journal_of w site)).node ≡ node_of plan w site
+
+-- a journal of this site of this plan opens, where there is room for a head and no call fails
+abbrev pub OwnJournalOpens : Type 0
+OwnJournalOpens = (plan : PlanData) (site limit : ℕ) (bytes : List ℕ) (batches : List (List Entry)) (fault : HostFault) → 40 ≤ limit
+    → HoldsBatches plan site batches bytes → Opens plan site limit bytes (Err fault) → (fault ≡ DiskFailed) ⊎ (fault ≡ NoMemory)
+
+-- A disk in memory, whose script stopped one of the four calls of a batch, crashed: it holds the batches before, or these and the new one, by the
+-- number of the call and by what the crash keeps. The premises on the batch are its clauses `readings`, `failed` and `keeps`.
+abbrev pub StoppedBatch : Type 0
+StoppedBatch = (old new : MemState) (script : Script) (host : HostState) (batches : List (List Entry)) (entries : List Entry) (result : Result Batched HostFault)
+    → old.fate.fails ≡ [] → old.fate.script ≡ Some script → 1 ≤ script.left → script.left ≤ 4 → IsHostOn host batches old.disk
+    → length entries ≤ most_inputs → AreAsked host.core.plan host.core.site entries → HaveReadings (journaled entries) → 1 ≤ length (journaled entries) → end_of host.gate (payload_of entries) ≤ old.room
+    → IsErrOf result DiskFailed
+    → IfSome (outlook_of old.fate.fails old.room old.fate.script) (λ o. IsErrOf result DiskFailed → Some new.disk ≡
+    (if nat_le (end_of host.gate (payload_of entries)) o.room then option_map (failed_state o.failing host.gate (payload_of entries)) (Some old.disk) else Some old.disk))
+    → Some (keep_of new.fate.script) ≡ Some (keep_of old.fate.script)
+    → HoldsBatches host.core.plan host.core.site (if is_kept script.left script.keep then grown batches (journaled entries) else batches) (kept (keep_of new.fate.script) new.disk)

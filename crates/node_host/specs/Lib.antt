@@ -3,4 +3,8 @@ pub mod Journals
 pub mod Answering
 pub mod Faults
 pub mod Opening
+pub mod States
+pub mod Fresh
+pub mod Hosts
+pub mod Openings
 pub mod Laws

@@ -1,7 +1,8 @@
 // Each law states what follows from the definitions alone.
-ghost use Rattle.node_host.specs.Laws.{BatchesArePushed, CommitsAreJoined, HeadKeeps, OneHolding, RecoveredGoesOn};
+ghost use Rattle.node_host.specs.Laws.{BatchesArePushed, CommitsAreJoined, HeadKeeps, HostStandsAtItsEnd, JournaledSuffice, OneHolding, OwnJournalOpens, RecoveredGoesOn, RecoveredIsNode, StoppedBatch};
 
-use node_journal::laws::one_list;
+use log_records::{batches_are_read_again, no_batch_is_longer, what_is_read_is_a_batch};
+use node_journal::laws::{next_of_list, no_list, one_gate, one_list, stopped_disk};
 
 /// An image holds at most one list of batches of a site.
 pub fn one_holding()
@@ -31,3 +32,39 @@ pub fn what_is_recovered_goes_on()
 pub fn commits_are_joined()
     ensures { CommitsAreJoined }
 {}
+
+/// The gate of a host stands where the journal of its batches ends.
+pub fn a_host_stands_at_its_end()
+    ensures { HostStandsAtItsEnd }
+{
+    one_gate();
+    what_is_read_is_a_batch();
+}
+
+/// What the batches of a site's journal make is the site's node.
+pub fn what_is_recovered_is_the_node()
+    ensures { RecoveredIsNode }
+{}
+
+/// A journal of this site of this plan opens, where there is room for a head and no call fails.
+pub fn an_own_journal_is_opened()
+    ensures { OwnJournalOpens }
+{
+    next_of_list();
+    no_list();
+}
+
+/// Entries that are not journaled leave the node as it is.
+pub fn journaled_entries_suffice()
+    ensures { JournaledSuffice }
+{}
+
+/// A call of a batch on a disk in memory was done and stopped, and the disk crashed: it holds the batches before, or these and
+/// the new one, by the number of the call and by what the crash keeps.
+pub fn a_stopped_batch()
+    ensures { StoppedBatch }
+{
+    stopped_disk();
+    batches_are_read_again();
+    no_batch_is_longer();
+}

@@ -1,21 +1,28 @@
-//! What a node does with its journal, piece by piece: it tests the head that the journal begins with, or makes it; it answers
-//! a batch; it takes the batches of a journal again, one after the other, up to the end. The node over its journal, which
-//! joins the pieces, is not here yet.
+//! A node over its journal. The layer above uses `Host`: `Host::open` reads a site's journal, or makes its head, and the host then stands for
+//! the batches that the journal holds; `Host::batch` seals a batch in the journal and answers it. At every moment each image of the disk
+//! holds the batches before or after.
 #![tactic(auto)]
 
 mod answering;
+mod batch;
 mod fault;
+mod fresh;
 mod heading;
+mod host;
 mod laws;
+mod open;
 mod opening;
 mod recovery;
 
 pub use answering::Answered;
+pub use batch::frame_length;
 pub use fault::HostFault;
 pub use heading::{make_head, test_head};
+pub use host::{Batched, Host, Opened};
 pub use laws::{
-    batches_are_pushed, commits_are_joined, one_holding, what_a_head_keeps,
-    what_is_recovered_goes_on,
+    a_host_stands_at_its_end, a_stopped_batch, an_own_journal_is_opened, batches_are_pushed,
+    commits_are_joined, journaled_entries_suffice, one_holding, what_a_head_keeps,
+    what_is_recovered_goes_on, what_is_recovered_is_the_node,
 };
 pub use opening::recover;
 pub use recovery::Recovery;

@@ -4,7 +4,7 @@ use Rattle.std.specs.List.{All}
 use Rattle.std.proofs.lemmas.Nat.{from_be_bytes-to_be_bytes_4}
 use Rattle.std.proofs.lemmas.List.{take_at, drop_at, get_or-drop, drop-drop}
 use Rattle.std.proofs.lemmas.List.Elements.{All-head, All-tail}
-use Rattle.node_journal.specs.Frames.{length_bytes, length_from, length_at, most_payload, IsSmall, frames, IsReadTo, LeadsNowhere, StandsFor}
+use Rattle.node_journal.specs.Frames.{length_bytes, length_from, length_at, most_payload, IsSmall, frames, HoldsFrame, IsReadTo, LeadsNowhere, StandsFor}
 use Rattle.node_journal.proofs.Bytes.{length-length_bytes}
 use Rattle.node_journal.proofs.Opens.{short_none}
 
@@ -111,3 +111,52 @@ none_at_all image gate payloads others long read nowhere (inr ends) =
     (sym (split_at image gate payloads read) ∙ split_at image ends.0 others ends.1.read)
     (λ is_open. ends.1.closed (sym (gate_of image ends.0) ∙ is_open))
     (omega (arith, length-drop ends.0 image, ends.1.read.within)) (nowhere_from image gate read.within nowhere)
+
+-- what stands behind a gate with a frame
+frame_behind : (image : List ℕ) (gate : ℕ) (payload : List ℕ) → HoldsFrame image gate payload → drop gate image ≡ 1 ∷ behind payload (drop (gate + 5 + length payload) image)
+frame_behind image gate payload holds = holds.frame ∙ append_assoc (1 ∷ length_bytes (length payload)) payload (drop (gate + 5 + length payload) image)
+
+-- behind frames that were read stands one more, so it is the next of all
+next_in : (ps qs : List (List ℕ)) (p d r : List ℕ) → All IsSmall ps → IsSmall p → All IsSmall qs → frames ps ++ (1 ∷ behind p d) ≡ frames qs ++ r → get_or r 0 0 ≢ 1
+    → (rest : List (List ℕ)) × (qs ≡ ps ++ p ∷ rest)
+next_in [] [] p d r small_ps small_p small_qs is closed = absurd (closed (ap (λ (l : List ℕ). get_or l 0 0) (sym is)))
+next_in [] (q ∷ qs) p d r small_ps small_p small_qs is closed =
+    let whole : 1 ∷ behind p d ≡ 1 ∷ behind q (frames qs ++ r) = is ∙ regroup q qs r in
+    let same = same_first p q d (frames qs ++ r) small_p (All-head IsSmall q qs small_qs) (tail_of 1 1 (behind p d) (behind q (frames qs ++ r)) whole) in
+    (qs, ap (λ (l : List ℕ). l ∷ qs) (sym same.0))
+next_in (s ∷ ps) [] p d r small_ps small_p small_qs is closed = absurd (closed (ap (λ (l : List ℕ). get_or l 0 0) (sym is ∙ regroup s ps (1 ∷ behind p d))))
+next_in (s ∷ ps) (q ∷ qs) p d r small_ps small_p small_qs is closed =
+    let whole : 1 ∷ behind s (frames ps ++ (1 ∷ behind p d)) ≡ 1 ∷ behind q (frames qs ++ r) = sym (regroup s ps (1 ∷ behind p d)) ∙ is ∙ regroup q qs r in
+    let same = same_first s q (frames ps ++ (1 ∷ behind p d)) (frames qs ++ r) (All-head IsSmall s ps small_ps) (All-head IsSmall q qs small_qs)
+    (tail_of 1 1 (behind s (frames ps ++ (1 ∷ behind p d))) (behind q (frames qs ++ r)) whole) in
+    let more = next_in ps qs p d r (All-tail IsSmall s ps small_ps) small_p (All-tail IsSmall q qs small_qs) same.1 closed in
+    (more.0, ap (λ (l : List ℕ). l ∷ qs) (sym same.0) ∙ ap (λ (l : List (List ℕ)). s ∷ l) more.1)
+
+-- the payload of a frame behind payloads that were read comes next in the list
+pub next_of_list : (image : List ℕ) (gate : ℕ) (payloads others : List (List ℕ)) (payload : List ℕ) → IsReadTo image gate payloads → HoldsFrame image gate payload → StandsFor image others
+    → (rest : List (List ℕ)) × (others ≡ payloads ++ payload ∷ rest)
+next_of_list image gate payloads others payload read holds (inl none) = absurd (omega (arith, holds.next, none.0))
+next_of_list image gate payloads others payload read holds (inr ends) =
+    next_in payloads others payload (drop (gate + 5 + length payload) image) (drop ends.0 image) read.small holds.small ends.1.read.small
+    (sym (split_at image gate payloads read ∙ ap (λ (l : List ℕ). frames payloads ++ l) (frame_behind image gate payload holds)) ∙ split_at image ends.0 others ends.1.read)
+    (λ is_open. ends.1.closed (sym (gate_of image ends.0) ∙ is_open))
+
+-- a gate has at most one frame behind it
+pub one_frame : (image : List ℕ) (gate : ℕ) (payload other : List ℕ) → HoldsFrame image gate payload → HoldsFrame image gate other → payload ≡ other
+one_frame image gate payload other holds holds' =
+    (same_first payload other (drop (gate + 5 + length payload) image) (drop (gate + 5 + length other) image) holds.small holds'.small
+    (tail_of 1 1 (behind payload (drop (gate + 5 + length payload) image)) (behind other (drop (gate + 5 + length other) image))
+    (sym (frame_behind image gate payload holds) ∙ frame_behind image gate other holds'))).0
+
+-- a gate that leads nowhere has no frame behind it
+pub no_frame : (image : List ℕ) (gate : ℕ) (payload : List ℕ) → LeadsNowhere image gate → HoldsFrame image gate payload → ⊥
+no_frame image gate payload nowhere holds =
+    let rest : List ℕ = drop (gate + 5 + length payload) image in
+    let whole : drop gate image ≡ 1 ∷ behind payload rest = frame_behind image gate payload holds in
+    let size : length_at (drop gate image) 0 ≡ length payload =
+    ap (λ (l : List ℕ). length_from (take 4 (drop 1 l))) whole ∙ ap length_from (front_of payload rest) ∙ read_again (length payload) holds.small in
+    let there : length_at (drop gate image) 0 ≡ length_at image gate = ap (λ (l : List ℕ). length_from (take 4 l)) (drop-drop 1 gate image) in
+    elim nowhere.nowhere [
+      | inl short ↦ omega (arith, short, holds.next)
+      | inr more ↦ elim more [ inl great ↦ omega (arith, great, size, there, holds.small) | inr past ↦ omega (arith, past, size, there, holds.next) ]
+    ]

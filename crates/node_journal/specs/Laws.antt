@@ -5,7 +5,7 @@ use Rattle.disk_store.specs.Crash.{kept}
 use Rattle.disk_store.specs.Memory.{MemState, outlook_of, keep_of}
 use Rattle.disk_store.specs.declared.fate.Keep.{Keep}
 use Rattle.disk_store.specs.declared.fate.Script.{Script}
-use Rattle.node_journal.specs.Frames.{IsSmall, frames, IsReadTo, EndsAt, LeadsNowhere, StandsFor}
+use Rattle.node_journal.specs.Frames.{IsSmall, frames, HoldsFrame, IsReadTo, EndsAt, LeadsNowhere, StandsFor}
 use Rattle.node_journal.specs.Appending.{IsReady, IsBeforeOrAfter, end_of, stopped_at, failed_state, is_kept}
 use Rattle.node_journal.specs.Positions.{Position}
 use Rattle.node_journal.specs.declared.fault.JournalFault.{JournalFault}
@@ -19,6 +19,19 @@ OneList = (image : List ℕ) (payloads others : List (List ℕ)) → StandsFor i
 abbrev pub NoList : Type 0
 NoList = (image : List ℕ) (gate : ℕ) (payloads others : List (List ℕ)) → 1 < length image → IsReadTo image gate payloads
     → LeadsNowhere image gate → StandsFor image others → ⊥
+
+-- the payload of a frame that stands behind the first payloads of a list comes next in it
+abbrev pub NextOfList : Type 0
+NextOfList = (image : List ℕ) (gate : ℕ) (payloads others : List (List ℕ)) (payload : List ℕ) → IsReadTo image gate payloads → HoldsFrame image gate payload
+    → StandsFor image others → (rest : List (List ℕ)) × (others ≡ payloads ++ payload ∷ rest)
+
+-- a gate has at most one frame behind it
+abbrev pub OneFrame : Type 0
+OneFrame = (image : List ℕ) (gate : ℕ) (payload other : List ℕ) → HoldsFrame image gate payload → HoldsFrame image gate other → payload ≡ other
+
+-- a gate that leads nowhere has no frame behind it
+abbrev pub NoFrame : Type 0
+NoFrame = (image : List ℕ) (gate : ℕ) (payload : List ℕ) → LeadsNowhere image gate → HoldsFrame image gate payload → ⊥
 
 -- the gate behind a list stands where the list's frames end
 abbrev pub OneGate : Type 0

@@ -1,5 +1,5 @@
 // Each law is carried by a function with an empty body, whose one clause states it.
-ghost use Rattle.node_journal.specs.Laws.{OneList, NoList, OneGate, Settled, StoppedAppend, StoppedDisk};
+ghost use Rattle.node_journal.specs.Laws.{OneList, NoList, NextOfList, OneFrame, NoFrame, OneGate, Settled, StoppedAppend, StoppedDisk};
 
 /// An image stands for at most one list.
 pub fn one_list()
@@ -9,6 +9,21 @@ pub fn one_list()
 /// An image of more than one byte whose open gate leads nowhere stands for no list.
 pub fn no_list()
     ensures { NoList }
+{}
+
+/// The payload of a frame that stands behind the first payloads of a list comes next in it.
+pub fn next_of_list()
+    ensures { NextOfList }
+{}
+
+/// A gate has at most one frame behind it.
+pub fn one_frame()
+    ensures { OneFrame }
+{}
+
+/// A gate that leads nowhere has no frame behind it.
+pub fn no_frame()
+    ensures { NoFrame }
 {}
 
 /// The gate behind a list stands where the list's frames end.

@@ -1,0 +1,39 @@
+-- How the opening of a host ends, by the bytes that the disk reads as.
+use Rattle.std.specs.Prelude.{◌≡◌, ◌≢◌, ℕ, ◌<◌, ◌≤◌, List, [], length, Result, Ok, Err}
+use Rattle.helios_model.specs.declared.entries.Entry.{Entry}
+use Rattle.helios_model.specs.Plans.{PlanData}
+use Rattle.node_journal.specs.Frames.{HoldsFrame, StandsFor}
+use Rattle.log_records.specs.declared.heads.Head.{Head}
+use Rattle.commit_offsets.specs.Fingerprint.{fingerprint_of}
+use Rattle.node_host.specs.declared.fault.HostFault.{HostFault}
+use Rattle.node_host.specs.declared.fault.HostFault.TheVariants.{DiskFailed, Damaged, JournalFull, WrongPlan, WrongSite, NoMemory}
+use Rattle.node_host.specs.declared.host.Opened.{Opened}
+use Rattle.node_host.specs.Journals.{HoldsBatches}
+use Rattle.node_host.specs.Opening.{IsDamagedAt, IsHead}
+
+-- the first payload is this head
+pub record BeginsWith (bytes : List ℕ) (head : Head) : Type 0 where
+  pub long : 1 < length bytes
+  pub payload : List ℕ
+  pub frame : HoldsFrame bytes 0 payload
+  pub is : IsHead payload head
+
+-- The batches of a journal of this site, with a head or room for it within the limit; or what stands in the way first in the file. A failed
+-- call and want of memory may come anywhere.
+abbrev pub Opens : PlanData → ℕ → ℕ → List ℕ → Result Opened HostFault → Type 0
+Opens plan site limit bytes (Ok opened) = (batches : List (List Entry)) × HoldsBatches plan site batches bytes × (StandsFor bytes [] → 40 ≤ limit)
+Opens plan site limit bytes (Err DiskFailed) = Unit {0}
+Opens plan site limit bytes (Err (Damaged at)) = (1 < length bytes) × IsDamagedAt plan site bytes at
+Opens plan site limit bytes (Err JournalFull) = StandsFor bytes [] × (limit < 40)
+Opens plan site limit bytes (Err (WrongPlan kept given)) = (head : Head) × BeginsWith bytes head × (head.fingerprint ≡ kept) × (given ≡ fingerprint_of plan) × (kept ≢ given)
+Opens plan site limit bytes (Err (WrongSite kept given)) = (head : Head) × BeginsWith bytes head × (head.fingerprint ≡ fingerprint_of plan) × (head.site ≡ kept) × (given ≡ site) × (kept ≢ given)
+Opens plan site limit bytes (Err NoMemory) = Unit {0}
+
+-- the journal is none of this site of this plan
+abbrev pub IsRefusal : HostFault → Type 0
+IsRefusal DiskFailed = ⊥
+IsRefusal (Damaged at) = Unit {0}
+IsRefusal JournalFull = ⊥
+IsRefusal (WrongPlan kept given) = Unit {0}
+IsRefusal (WrongSite kept given) = Unit {0}
+IsRefusal NoMemory = ⊥
