@@ -185,48 +185,72 @@ fn summary(time: u64, log: u64, pending: u64) -> Summary {
     }
 }
 
-fn is_committed(reply: &Reply, id: TxnId) -> bool {
+fn committed(reply: &Reply) -> Option<TxnId> {
     match reply {
-        Reply::Committed(other) => *other == id,
-        _ => false,
+        Reply::Committed(id) => Some(*id),
+        _ => None,
     }
+}
+
+/// What a request at the last reading of a clock comes to at one site.
+#[derive(Debug, Drop, PartialEq)]
+struct Reached {
+    committed: Option<TxnId>,
+    added: usize,
+    commits: usize,
+    written: (Version, usize),
+    unwritten: Version,
+    state: State,
+    summary: Summary,
+}
+
+fn last_request(alloc: Global, id: TxnId) -> Result<Reached, Fail> {
+    let core = Core::new(alloc, one_site(alloc)?, SiteId::of(0))?;
+    let input = Input::Request(ask(alloc, b"x")?);
+    let reading = u64::MAX;
+    let out = core.step(Entry { reading, input })?;
+    let (version, value) = out.core.current(&key(alloc, b"x")?);
+    Ok(Reached {
+        committed: committed(&out.reply),
+        added: out.added.items().len(),
+        commits: out.commits.items().len(),
+        written: (version, value.len()),
+        unwritten: out.core.current(&key(alloc, b"y")?).0,
+        state: out.core.status(id),
+        summary: out.core.summary(),
+    })
 }
 
 #[test]
 fn a_request_commits_at_one_site(rt: HostRuntime) -> Result<(), Fail> {
-    let alloc = rt.alloc();
-    let core = Core::new(alloc, one_site(alloc)?, SiteId::of(0))?;
-    let input = Input::Request(ask(alloc, b"x")?);
-    let reading = u64::MAX;
-    let Outcome {
-        core,
-        reply,
-        added,
-        commits,
-    } = core.step(Entry { reading, input })?;
     let last = id(0, 4611686018427125760);
-    assert!(rt; is_committed(&reply, last));
-    assert_eq!(rt; added.items().len(), 2);
-    assert_eq!(rt; commits.items().len(), 1);
-    let (version, value) = core.current(&key(alloc, b"x")?);
-    assert_eq!(rt; version, Version::Of(last));
-    assert_eq!(rt; value, b"v".as_slice());
-    assert_eq!(rt; core.current(&key(alloc, b"y")?).0, Version::Initial);
-    assert_eq!(rt; core.status(last), State::Committed);
-    assert_eq!(rt; core.summary(), summary(4611686018427125761, 2, 0));
+    let wanted = Reached {
+        committed: Some(last),
+        added: 2,
+        commits: 1,
+        written: (Version::Of(last), 1),
+        unwritten: Version::Initial,
+        state: State::Committed,
+        summary: summary(4611686018427125761, 2, 0),
+    };
+    assert_eq!(rt; last_request(rt.alloc(), last)?, wanted);
     Ok(())
+}
+
+/// What is known of a transaction before a message of the other site and after it, how many commits that brings, and what the site has come to.
+fn waited(alloc: Global, id: TxnId) -> Result<(State, State, usize, Summary), Fail> {
+    let (first, _) = write(alloc, site_at(alloc, 0)?, 1000, b"x")?;
+    let (_, message) = pull(site_at(alloc, 1)?, 2000)?;
+    let before = first.core.status(id);
+    let (first, told) = push(first, 1500, message)?;
+    let commits = told.commits.items().len();
+    Ok((before, first.core.status(id), commits, first.core.summary()))
 }
 
 #[test]
 fn a_push_commits_what_waited(rt: HostRuntime) -> Result<(), Fail> {
-    let alloc = rt.alloc();
-    let (first, _) = write(alloc, site_at(alloc, 0)?, 1000, b"x")?;
-    let (_, message) = pull(site_at(alloc, 1)?, 2000)?;
-    assert_eq!(rt; first.core.status(id(0, 1000)), State::Pending);
-    let (first, told) = push(first, 1500, message)?;
-    assert_eq!(rt; told.commits.items().len(), 1);
-    assert_eq!(rt; first.core.status(id(0, 1000)), State::Committed);
-    assert_eq!(rt; first.core.summary(), summary(1501, 2, 0));
+    let wanted = (State::Pending, State::Committed, 1, summary(1501, 2, 0));
+    assert_eq!(rt; waited(rt.alloc(), id(0, 1000))?, wanted);
     Ok(())
 }
 
@@ -242,13 +266,18 @@ fn many_writes(alloc: Global, site: Site, count: u8) -> Result<Site, Fail>
     Ok(site)
 }
 
+/// How many records a message of a site with 70 transactions has, its cover, and what the site has come to.
+fn covered(alloc: Global) -> Result<(usize, Vec<u64>, Summary), Fail> {
+    let site = many_writes(alloc, site_at(alloc, 0)?, 70)?;
+    let (site, message) = pull(site, 1000)?;
+    let cover = message.cover.items().to_vec(alloc)?;
+    Ok((message.records.items().len(), cover, site.core.summary()))
+}
+
 #[test]
 fn a_message_covers_up_to_what_it_leaves_off(rt: HostRuntime) -> Result<(), Fail> {
     let alloc = rt.alloc();
-    let site = many_writes(alloc, site_at(alloc, 0)?, 70)?;
-    let (site, message) = pull(site, 1000)?;
-    assert_eq!(rt; message.records.items().len(), 64);
-    assert_eq!(rt; message.cover.items(), [1063, 0].as_slice());
-    assert_eq!(rt; site.core.summary(), summary(1069, 70, 70));
+    let wanted = (64, vec![in alloc; 1063, 0]?, summary(1069, 70, 70));
+    assert_eq!(rt; covered(alloc)?, wanted);
     Ok(())
 }

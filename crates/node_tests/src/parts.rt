@@ -4,22 +4,28 @@ ghost use Rattle.helios_model.specs.Log.{origin};
 
 use helios_model::{Record, SiteId, Time, Times, TxnId};
 use log_exchange::ExchangeLog;
+use std::alloc::Global;
 use std::test::Fail;
 use time_table::TimeTable;
 
-#[test]
-fn a_table_takes_the_greater_times(rt: HostRuntime) -> Result<(), Fail> {
-    let alloc = rt.alloc();
+/// A time that was raised twice, the times of a table that took in a message, and how many sites it has.
+fn merged(alloc: Global) -> Result<(Time, Vec<u64>, u8), Fail> {
     let (first, second) = (SiteId::of(0), SiteId::of(1));
     let mut table = TimeTable::new(alloc, 2)?;
     table.raise(first, second, Time::of(5));
     table.raise(first, second, Time::of(4));
-    assert_eq!(rt; table.get(first, second), Time::of(5));
+    let raised = table.get(first, second);
     let theirs = Times::new(vec![in alloc; 9, 9, 7, 8]?);
     let cover = Times::new(vec![in alloc; 9, 6]?);
     table.merge(first, &theirs, &cover);
-    assert_eq!(rt; table.grid().items(), [0, 6, 7, 8].as_slice());
-    assert_eq!(rt; table.count(), 2);
+    Ok((raised, table.grid().items().to_vec(alloc)?, table.count()))
+}
+
+#[test]
+fn a_table_takes_the_greater_times(rt: HostRuntime) -> Result<(), Fail> {
+    let alloc = rt.alloc();
+    let wanted = (Time::of(5), vec![in alloc; 0, 6, 7, 8]?, 2);
+    assert_eq!(rt; merged(alloc)?, wanted);
     Ok(())
 }
 
@@ -37,9 +43,8 @@ fn commit(site: u8, time: u64) -> Record
     }
 }
 
-#[test]
-fn a_log_sends_what_is_due(rt: HostRuntime) -> Result<(), Fail> {
-    let alloc = rt.alloc();
+/// The own times of what is due to the other site, its cover, and how many records are kept.
+fn due(alloc: Global) -> Result<(Vec<Time>, Vec<u64>, usize), Fail> {
     let (first, second) = (SiteId::of(0), SiteId::of(1));
     let mut log = ExchangeLog::new(alloc, 2, first)?;
     log.append(commit(0, 3))?;
@@ -51,9 +56,14 @@ fn a_log_sends_what_is_due(rt: HostRuntime) -> Result<(), Fail> {
     table.raise(second, first, Time::of(3));
     let (records, cover) = log.select(second, &table)?;
     let times = records.items().iter().map(|r| r.own_time()).collect(alloc)?;
-    let times: Vec<Time> = times;
-    assert_eq!(rt; times.as_slice(), [Time::of(4), Time::of(5)].as_slice());
-    assert_eq!(rt; cover.items(), [6, 4].as_slice());
-    assert_eq!(rt; log.retained(), 3);
+    Ok((times, cover.items().to_vec(alloc)?, log.retained()))
+}
+
+#[test]
+fn a_log_sends_what_is_due(rt: HostRuntime) -> Result<(), Fail> {
+    let alloc = rt.alloc();
+    let times = vec![in alloc; Time::of(4), Time::of(5)]?;
+    let wanted = (times, vec![in alloc; 6, 4]?, 3);
+    assert_eq!(rt; due(alloc)?, wanted);
     Ok(())
 }
