@@ -1,13 +1,13 @@
-//! The program `helios`: it hands the words of the command line, the standard input and the
-//! standard output to `helios_top::run`, and ends with the status that comes out.
+//! The program `helios`: it hands the words of the command line, the standard input, the standard
+//! output and a bench of empty disks to `helios_top::run`, and ends with the status that comes out.
 #![tactic(auto)]
 
 ghost use Rattle.std.specs.Prelude.{◌≡◌, IfErr, IfOk, IsErrAnd, MatchResult, drop};
 ghost use Rattle.std.specs.Vec.Iter.{into_iter_items};
-ghost use Rattle.helios_top.specs.Outside.{Outside};
-ghost use Rattle.helios.specs.Words.{IsReason, IsWordless, RunsWords};
+ghost use Rattle.helios.specs.Words.{IsReason, IsWordless, RunsWords, Streams};
 ghost use Rattle.helios.specs.declared.NoWords.TheVariants.{NotText, NoMemory};
 
+use disk_store::Bench;
 use helios_top::run;
 use outside_io::{Sink, Source, StdSink, StdSource};
 use std::alloc::{AllocError, Global};
@@ -17,12 +17,12 @@ use std::{env, io};
 #[cfg(test)]
 mod tests;
 
-/// Why the words could not be had. The program then ends without a line.
+/// Why no words are run. The program then ends without a line.
 #[derive(Clone, Copy, Debug, PartialEq, Eq)]
 enum NoWords {
     /// A word is not UTF-8 text.
     NotText,
-    /// There was no memory for the words.
+    /// There was no memory for the words, or for the bench.
     NoMemory,
 }
 
@@ -81,17 +81,34 @@ fn run_command_line<S: Source, K: Sink>(
     output: &mut K,
 ) -> u8
     ensures run { IfOk all (λ args.
-        let before : Outside = record { input = S.seen input.old; output = K.seen output.old } in
-        let after : Outside = record { input = S.seen input.new; output = K.seen output.new } in
+        let before : Streams = record { input = S.seen input.old; output = K.seen output.old } in
+        let after : Streams = record { input = S.seen input.new; output = K.seen output.new } in
         RunsWords (drop 1 (into_iter_items args)) before after result) }
     ensures wordless { IfErr all (λ error.
-        let before : Outside = record { input = S.seen input.old; output = K.seen output.old } in
-        let after : Outside = record { input = S.seen input.new; output = K.seen output.new } in
+        let before : Streams = record { input = S.seen input.old; output = K.seen output.old } in
+        let after : Streams = record { input = S.seen input.new; output = K.seen output.new } in
         IsWordless error before after result) }
 {
     match words_of(alloc, all) {
-        Ok(words) => run(alloc, &words, input, output).0,
+        Ok(words) => run_words(alloc, &words, input, output),
         Err(none) => none.status(),
+    }
+}
+
+/// Runs the words over a bench that is made for them.
+fn run_words<S: Source, K: Sink>(
+    alloc: Global,
+    words: &Vec<String>,
+    input: &mut S,
+    output: &mut K,
+) -> u8
+    ensures { let before : Streams = record { input = S.seen input.old; output = K.seen output.old } in
+        let after : Streams = record { input = S.seen input.new; output = K.seen output.new } in
+        RunsWords words.now.items before after result }
+{
+    match Bench::new(alloc) {
+        Ok(mut bench) => run(alloc, words, input, output, &mut bench).0,
+        Err(_) => NoWords::NoMemory.status(),
     }
 }
 

@@ -1,5 +1,5 @@
+pub mod Benches
+pub mod Checks
 pub mod Commands
 pub mod Inputs
 pub mod Runs
-pub mod Replays
-pub mod Checks

@@ -11,6 +11,7 @@ use Rattle.helios_top.specs.declared.ending.Refusal.{Refusal}
 use Rattle.helios_top.specs.declared.ending.Ending.{Ending}
 use Rattle.helios_top.specs.declared.ending.Ending.TheVariants.{Usage, ReadFault, NoMemory, Refused, Printed, Judged}
 use Rattle.helios_top.specs.Answers.{EndsBy, IsAnswer}
+use Rattle.helios_top.specs.Benches.{BenchAfter, Leaves}
 use Rattle.helios_top.specs.Ending.{Came, IsDone, line, refusal_text, status_of, text_of}
 use Rattle.helios_top.specs.Inputs.{IsAnsweredInput, IsRefusedInput, ReadsInput}
 use Rattle.helios_top.specs.IsRun.{IsRun, Writes}
@@ -158,6 +159,10 @@ named_ends : (named : Option Command) (command : Command) (old new : SourceSeen)
     → ReadsInput command old new ending (IsAnswer command ending)
 named_ends named command old new ending h e = subst (λ (n : Option Command). EndsBy n old new ending) e h
 
+named_leaves : (named : Option Command) (command : Command) (before after : Outside) (ending : Ending) → BenchAfter named before.input after.input before.bench after.bench ending
+    → named ≡ Some command → Leaves command before.input after.input before.bench after.bench ending
+named_leaves named command before after ending h e = subst (λ (n : Option Command). BenchAfter n before.input after.input before.bench after.bench ending) e h
+
 refused_by : (named : Option Command) (old new : SourceSeen) (ending : Ending) (refusal : Refusal) → EndsBy named old new ending → ending ≡ Refused refusal
     → (command : Command) × (named ≡ Some command) × IfSome old.left (λ bytes. refusal_of command bytes ≡ Some refusal)
 refused_by None old new ending refusal h e = cc
@@ -175,8 +180,9 @@ judged_by (Some command) old new ending verdict h e =
 
 pub is_run : (words : List (List ℕ)) (before after : Outside) (ending : Ending) (status : ℕ) → EndsBy (command_of words) before.input after.input ending
     → (ending ≢ ReadFault → after.input.faults ≡ before.input.faults) → Came before.output after.output ending status
-    → (status ≢ 3 → after.output.faults ≡ before.output.faults) → IsLater before after → IsRun words before after status
-is_run words before after ending status ends reads came writes later = record {
+    → (status ≢ 3 → after.output.faults ≡ before.output.faults) → IsLater before after
+    → BenchAfter (command_of words) before.input after.input before.bench after.bench ending → IsRun words before after status
+is_run words before after ending status ends reads came writes later leaves = record {
   ending = ending;
   came = came;
   later = later;
@@ -204,7 +210,17 @@ is_run words before after ending status ends reads came writes later = record {
   denied = λ e. let d = due before.output after.output ending status came (λ three. omega arith) (λ four. omega arith) in
       let is = is_9 ending (d.status_is ∙ e) in
       (judged_by (command_of words) before.input after.input ending is.0 ends is.1, d.written);
-  replay = named_ends (command_of words) Replay before.input after.input ending ends;
-  check = named_ends (command_of words) Check before.input after.input ending ends;
-  plan = named_ends (command_of words) Plan before.input after.input ending ends;
+  bench = leaves;
+  replay = λ e. record {
+    reads = named_ends (command_of words) Replay before.input after.input ending ends e;
+    bench = named_leaves (command_of words) Replay before after ending leaves e;
+  };
+  check = λ e. record {
+    reads = named_ends (command_of words) Check before.input after.input ending ends e;
+    bench = named_leaves (command_of words) Check before after ending leaves e;
+  };
+  plan = λ e. record {
+    reads = named_ends (command_of words) Plan before.input after.input ending ends e;
+    bench = named_leaves (command_of words) Plan before after ending leaves e;
+  };
 }

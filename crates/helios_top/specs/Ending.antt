@@ -1,5 +1,6 @@
 -- The status and the text of each end of a run, and what is written of it.
-use Rattle.std.specs.Prelude.{◌≡◌, ℕ, ◌⊎◌, List, [], ◌∷◌, ◌++◌, codes}
+use Rattle.std.specs.Prelude.{◌≡◌, ℕ, ◌⊎◌, List, [], ◌∷◌, ◌++◌, codes, Result, Ok, Err}
+use Rattle.std.specs.declared.alloc.AllocError.{AllocError}
 use Rattle.std.specs.Io.KnownBytes.{Appends}
 use Rattle.commit_offsets.specs.Lines as plan
 use Rattle.rtt_matrix.specs.Lines as matrix
@@ -9,7 +10,7 @@ use Rattle.outside_io.specs.Causes.{Rose}
 use Rattle.outside_io.specs.Seen.{SinkSeen}
 use Rattle.outside_io.specs.Whole.{AppendsPrefix}
 use Rattle.helios_top.specs.declared.ending.Refusal.{Refusal}
-use Rattle.helios_top.specs.declared.ending.Refusal.TheVariants.{OfMatrix, OfPlan, OfReplay, OfSchedule, TooLarge, Unbuilt}
+use Rattle.helios_top.specs.declared.ending.Refusal.TheVariants.{OfMatrix, OfPlan, OfReplay, OfSchedule, TooLarge}
 use Rattle.helios_top.specs.declared.ending.Ending.{Ending}
 use Rattle.helios_top.specs.declared.ending.Ending.TheVariants.{Usage, ReadFault, NoMemory, Refused, Printed, Judged}
 use Rattle.helios_top.specs.Verdicts.{verdict_status, verdict_text}
@@ -21,7 +22,6 @@ line text = text ++ 10 ∷ []
 -- the name of a refusal, with its numbers
 abbrev pub refusal_text : Refusal → List ℕ
 refusal_text TooLarge = codes "too-large"
-refusal_text Unbuilt = codes "unbuilt"
 refusal_text (OfSchedule refusal) = schedule.refusal_text refusal
 refusal_text (OfReplay refusal) = steps.refusal_text refusal
 refusal_text (OfPlan refusal) = plan.refusal_text refusal
@@ -44,6 +44,11 @@ text_of NoMemory = line (codes "fault memory")
 text_of (Refused refusal) = line (codes "refused " ++ refusal_text refusal)
 text_of (Printed text) = text
 text_of (Judged verdict) = line (verdict_text verdict)
+
+-- the end that a command's answer is: want of memory is an end too
+abbrev pub end_of : Result Ending AllocError → Ending
+end_of (Ok ending) = ending
+end_of (Err error) = NoMemory
 
 -- the end is the command's own answer: no fault, no refusal
 abbrev pub IsDone : Ending → Type 0

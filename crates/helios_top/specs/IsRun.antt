@@ -7,6 +7,7 @@ use Rattle.helios_top.specs.declared.words.Command.TheVariants.{Check, Plan, Rep
 use Rattle.helios_top.specs.declared.ending.Refusal.{Refusal}
 use Rattle.helios_top.specs.declared.ending.Ending.{Ending}
 use Rattle.helios_top.specs.declared.ending.Ending.TheVariants.{Usage, ReadFault, NoMemory, Refused}
+use Rattle.helios_top.specs.Benches.{BenchAfter}
 use Rattle.helios_top.specs.Ending.{Came, IsDone, line, refusal_text, text_of}
 use Rattle.helios_top.specs.Outside.{IsLater, Outside}
 use Rattle.helios_top.specs.Refusals.{refusal_of}
@@ -47,6 +48,8 @@ pub record IsRun (words : List (List ℕ)) (before after : Outside) (status : �
       → refusal_of command bytes ≡ Some refusal → (ending ≡ Refused refusal) ⊎ (ending ≡ ReadFault) ⊎ (ending ≡ NoMemory))
   -- 9: the plan is not shown to be optimal
   pub denied : status ≡ 9 → (command_of words ≡ Some Check) × Writes before after (text_of ending)
+  -- the bench is left before anything is written: what it is goes by the true end, also at the statuses 3 and 4
+  pub bench : BenchAfter (command_of words) before.input after.input before.bench after.bench ending
   -- each command
   pub replay : command_of words ≡ Some Replay → ReplayRun before after ending
   pub check : command_of words ≡ Some Check → CheckRun before after ending

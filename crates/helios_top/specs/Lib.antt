@@ -1,4 +1,5 @@
 pub mod Answers
+pub mod Benches
 pub mod Ending
 pub mod Inputs
 pub mod IsRun

@@ -1,5 +1,6 @@
 -- What the objects of the outside tell, and what stays of it whatever end a run comes to.
-use Rattle.std.specs.Prelude.{ℕ, ◌+◌, ◌≤◌}
+use Rattle.std.specs.Prelude.{ℕ, ◌+◌, ◌≤◌, List}
+use Rattle.disk_store.specs.Memory.{MemState}
 use Rattle.outside_io.specs.Causes.{StaysTold}
 use Rattle.outside_io.specs.Seen.{SourceSeen, SinkSeen}
 use Rattle.outside_io.specs.Whole.{TakesAtMost}
@@ -10,6 +11,8 @@ pub record Outside : Type 0 where
   pub input : SourceSeen
   -- standard output
   pub output : SinkSeen
+  -- the disks of a replay, one for each site
+  pub bench : List MemState
 
 -- the most bytes that a command reads
 abbrev pub most_input_bytes : ℕ

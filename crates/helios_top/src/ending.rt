@@ -20,11 +20,9 @@ pub struct Status(pub u8);
 pub enum Refusal {
     /// The input has more bytes than a command reads.
     TooLarge,
-    /// Some step of the schedule has a stop, which is not built yet.
-    Unbuilt,
     /// The text of a schedule breaks a rule.
     OfSchedule(ScheduleRefusal),
-    /// A step of the schedule takes in a message that it can not take in.
+    /// Too much was written before a step of the schedule, or it takes in a message that it can not take in.
     OfReplay(ReplayRefusal),
     /// The text of a plan breaks a rule.
     OfPlan(PlanRefusal),
@@ -55,7 +53,6 @@ impl fmt::Display for Refusal {
     fn fmt<W: fmt::Write>(&self, f: &mut fmt::Formatter<W>) -> fmt::Result {
         match self {
             Refusal::TooLarge => write!(f, "too-large"),
-            Refusal::Unbuilt => write!(f, "unbuilt"),
             Refusal::OfSchedule(refusal) => write!(f, "{refusal}"),
             Refusal::OfReplay(refusal) => write!(f, "{refusal}"),
             Refusal::OfPlan(refusal) => write!(f, "{refusal}"),

@@ -1,5 +1,5 @@
 //! The top call: `run` does all that the program does, from the words of a command line and the
-//! bytes of an input to one text or one line and an exit status.
+//! bytes of an input to one text or one line and an exit status. A replay runs over a bench of disks.
 //! What a run does is the page specs/IsRun; what each command does has a page in specs/Runs.
 #![tactic(auto)]
 

@@ -1,9 +1,10 @@
-ghost use Rattle.std.specs.Prelude.{◌≡◌, ◌≢◌, ◌+◌, ◌≤◌, None, Some, IfOk, MatchResult};
+ghost use Rattle.std.specs.Prelude.{◌≡◌, ◌≢◌, ◌+◌, ◌≤◌, None, Some, IfOk};
 ghost use Rattle.outside_io.specs.Causes.{StaysTold};
 ghost use Rattle.outside_io.specs.Whole.{TakesAtMost};
 ghost use Rattle.helios_top.specs.declared.ending.Ending.{Ending};
 ghost use Rattle.helios_top.specs.Answers.{EndsBy, EndsOver, IsAnswer};
-ghost use Rattle.helios_top.specs.Ending.{Came, WroteText, text_of};
+ghost use Rattle.helios_top.specs.Benches.{BenchAfter, Leaves, LeavesOver};
+ghost use Rattle.helios_top.specs.Ending.{Came, WroteText, end_of, text_of};
 ghost use Rattle.helios_top.specs.Inputs.{ReadsInput};
 ghost use Rattle.helios_top.specs.IsRun.{IsRun};
 ghost use Rattle.helios_top.specs.Outside.{Outside, most_input_bytes};
@@ -11,32 +12,41 @@ ghost use Rattle.helios_top.specs.Words.{command_of, texts};
 
 use crate::words::read_words;
 use crate::{Command, Ending, INPUT_LIMIT, Refusal, Status, check, plan, replay};
+use disk_store::Bench;
 use outside_io::{InputError, Sink, Source, read_whole, write_whole};
 use std::alloc::{AllocError, Global};
 
 /// Does what the words ask for, which are without the program's own name: reads the input, writes
-/// one text or one line, and gives the exit status.
+/// one text or one line, and gives the exit status. A replay runs its sites over the disks of the
+/// bench, which it makes empty first; all else leaves the bench as it is.
 pub fn run<S: Source, K: Sink>(
     alloc: Global,
     words: &Vec<String>,
     input: &mut S,
     output: &mut K,
+    bench: &mut Bench,
 ) -> Status
-    ensures run { let before : Outside = record { input = S.seen input.old; output = K.seen output.old } in
-        let after : Outside = record { input = S.seen input.new; output = K.seen output.new } in
+    ensures run { let before : Outside = record { input = S.seen input.old; output = K.seen output.old; bench = bench.old } in
+        let after : Outside = record { input = S.seen input.new; output = K.seen output.new; bench = bench.new } in
         IsRun (texts words.now.items) before after result.0 }
     ensures unread { command_of (texts words.now.items) ≡ None → input.new ≡ input.old }
 {
-    let ending = ending_of(alloc, words, input);
+    let ending = ending_of(alloc, words, input, bench);
     let status = write_ending(alloc, output, ending);
     Status(status)
 }
 
 /// The end of a run, before anything is written.
 #[tactic(auto, using(crate::proofs::Inputs::takes_nothing))]
-fn ending_of<S: Source>(alloc: Global, words: &Vec<String>, input: &mut S) -> Ending
+fn ending_of<S: Source>(
+    alloc: Global,
+    words: &Vec<String>,
+    input: &mut S,
+    bench: &mut Bench,
+) -> Ending
     ensures unread { command_of (texts words.now.items) ≡ None → input.new ≡ input.old }
     ensures ends { EndsBy (command_of (texts words.now.items)) (S.seen input.old) (S.seen input.new) result }
+    ensures leaves { BenchAfter (command_of (texts words.now.items)) (S.seen input.old) (S.seen input.new) bench.old bench.new result }
     ensures steady { result ≢ Ending.ReadFault → (S.seen input.new).faults ≡ (S.seen input.old).faults }
     ensures tells { StaysTold (S.seen input.old).left (S.seen input.new).left }
     ensures later { (S.seen input.old).faults ≤ (S.seen input.new).faults }
@@ -44,21 +54,27 @@ fn ending_of<S: Source>(alloc: Global, words: &Vec<String>, input: &mut S) -> En
 {
     match read_words(words) {
         None => Ending::Usage,
-        Some(command) => read_and_answer(alloc, command, input),
+        Some(command) => read_and_answer(alloc, command, input, bench),
     }
 }
 
 /// The end of a command over its input.
-#[tactic(auto, using(crate::proofs::Inputs::answers_input))]
-fn read_and_answer<S: Source>(alloc: Global, command: Command, input: &mut S) -> Ending
+#[tactic(auto, using(crate::proofs::Inputs::answers_input, crate::proofs::Benches::bench_left))]
+fn read_and_answer<S: Source>(
+    alloc: Global,
+    command: Command,
+    input: &mut S,
+    bench: &mut Bench,
+) -> Ending
     ensures ends { ReadsInput command (S.seen input.old) (S.seen input.new) result (IsAnswer command result) }
+    ensures leaves { Leaves command (S.seen input.old) (S.seen input.new) bench.old bench.new result }
     ensures steady { result ≢ Ending.ReadFault → (S.seen input.new).faults ≡ (S.seen input.old).faults }
     ensures tells { StaysTold (S.seen input.old).left (S.seen input.new).left }
     ensures later { (S.seen input.old).faults ≤ (S.seen input.new).faults }
     ensures most { TakesAtMost (most_input_bytes + 1) (S.seen input.old).left (S.seen input.new).left }
 {
     match read_whole(alloc, input, INPUT_LIMIT) {
-        Ok(Some(bytes)) => answered(answer(alloc, command, bytes.as_slice())),
+        Ok(Some(bytes)) => answered(answer(alloc, command, bytes.as_slice(), bench)),
         Ok(None) => Ending::Refused(Refusal::TooLarge),
         Err(InputError::Failed) => Ending::ReadFault,
         Err(InputError::NoMemory) => Ending::NoMemory,
@@ -66,7 +82,7 @@ fn read_and_answer<S: Source>(alloc: Global, command: Command, input: &mut S) ->
 }
 
 fn answered(answer: Result<Ending, AllocError>) -> Ending
-    ensures { MatchResult answer (λ ending. result ≡ ending) (λ _. result ≡ Ending.NoMemory) }
+    ensures { result ≡ end_of answer }
 {
     match answer {
         Ok(ending) => ending,
@@ -75,11 +91,17 @@ fn answered(answer: Result<Ending, AllocError>) -> Ending
 }
 
 /// The end of a command over its whole input.
-fn answer(alloc: Global, command: Command, input: &[u8]) -> Result<Ending, AllocError>
-    ensures { IfOk result (EndsOver command input.now) }
+fn answer(
+    alloc: Global,
+    command: Command,
+    input: &[u8],
+    bench: &mut Bench,
+) -> Result<Ending, AllocError>
+    ensures ends { IfOk result (EndsOver command input.now) }
+    ensures leaves { LeavesOver command input.now bench.old bench.new (end_of result) }
 {
     match command {
-        Command::Replay => replay::answer(alloc, input),
+        Command::Replay => replay::answer(alloc, input, bench),
         Command::Check => check::answer(alloc, input),
         Command::Plan => plan::answer(alloc, input),
     }

@@ -1,7 +1,8 @@
-// Schedules of several sites through `run`: requests, gets, statuses, messages and restarts.
+// Schedules of several sites through `run`: requests, gets, statuses, messages, restarts and stops.
 ghost use Rattle.std.specs.Prelude.{◌≡◌};
 
 use crate::runs::run_over;
+use disk_store::Bench;
 use schedule_replay::replay;
 use schedule_text::{Schedule, StepList, read_schedule};
 use std::alloc::{AllocError, Global};
@@ -51,7 +52,11 @@ fn step_text(alloc: Global, step: &str) -> Result<String, AllocError> {
     }
 }
 
-fn schedule_text(alloc: Global, plan: &str, steps: &[&str]) -> Result<Vec<u8>, AllocError> {
+pub(crate) fn schedule_text(
+    alloc: Global,
+    plan: &str,
+    steps: &[&str],
+) -> Result<Vec<u8>, AllocError> {
     let mut text = format!(in alloc; "{{\"plan\":{plan},\"steps\":[")?;
     let mut first = true;
     for step in steps {
@@ -67,7 +72,7 @@ fn schedule_text(alloc: Global, plan: &str, steps: &[&str]) -> Result<Vec<u8>, A
 
 #[test]
 fn replays_each_schedule(rt: HostRuntime) -> Result<(), Fail> {
-    let cases: [(&str, &[&str], &str); 12] = [
+    let cases: [(&str, &[&str], &str); 15] = [
         // A prepared transaction commits once the other site's time has come far enough.
         (
             EVEN,
@@ -183,6 +188,36 @@ fn replays_each_schedule(rt: HostRuntime) -> Result<(), Fail> {
             ],
             "0 1 prepared 1@10\n1 1 prepared 1@11\n2 1 conflict 1@10\n3 1 overwritten y initial\n4 1 prepared 1@12\nsite 0 time 0 log 0 pending 0\nsite 1 time 12 log 3 pending 3\n",
         ),
+        // A batch that was stopped before its gate was open is lost; behind that the crash decides.
+        (
+            ALONE,
+            &[
+                r#"{"site":0,"inputs":[{"at":1000,"reads":[],"writes":[["x","v1"]]}],"stop":{"call":2,"keep":"all"}}"#,
+                r#"{"site":0,"inputs":[{"at":1000,"reads":[],"writes":[["x","v1"]]}],"stop":{"call":3,"keep":1}}"#,
+                "0 status 0@1000",
+            ],
+            "0 0 lost\n1 0 kept\n2 0 state committed\ncommit 0@1000\nsite 0 time 1001 log 2 pending 0\n",
+        ),
+        (
+            ALONE,
+            &[
+                r#"{"site":0,"inputs":[{"at":1000,"reads":[],"writes":[["x","v1"]]}],"stop":{"call":4,"keep":"nothing"}}"#,
+                r#"{"site":0,"inputs":[{"at":1000,"reads":[],"writes":[["x","v1"]]}],"stop":{"call":4,"keep":"all"}}"#,
+                "0 get x",
+            ],
+            "0 0 lost\n1 0 kept\n2 0 value 0@1000 7631\ncommit 0@1000\nsite 0 time 1001 log 2 pending 0\n",
+        ),
+        // A stopped opening leaves the journal as it was, also the first one of a site.
+        (
+            EVEN,
+            &[
+                r#"{"restart":1,"stop":{"call":2,"keep":"nothing"}}"#,
+                "1 pull 5000 0",
+                r#"{"restart":1,"stop":{"call":1,"keep":0}}"#,
+                "1 W 10 y",
+            ],
+            "0 1 restarted\n1 1 sent 0 0\n2 1 restarted\n3 1 prepared 1@5001\nsite 0 time 0 log 0 pending 0\nsite 1 time 5001 log 1 pending 1\n",
+        ),
         (
             EVEN,
             &["0 status 0@1", "0 status 1@1"],
@@ -216,13 +251,13 @@ fn refuses_each_message_that_a_site_cannot_take(rt: HostRuntime) -> Result<(), F
             ],
             "refused not-for-site 1\n",
         ),
-        // A stop is not built yet.
+        // A kept batch releases no message.
         (
             &[
-                r#"{"restart":0,"stop":{"call":1,"keep":"all"}}"#,
+                r#"{"site":1,"inputs":[{"at":1,"pull":0}],"stop":{"call":3,"keep":"all"}}"#,
                 "0 push 1 0",
             ],
-            "refused unbuilt\n",
+            "refused no-such-message 1\n",
         ),
     ];
     for (steps, line) in cases {
@@ -268,7 +303,8 @@ fn a_schedule_that_was_read_is_replayed(rt: HostRuntime) -> Result<(), Fail> {
     let input = schedule_text(rt.alloc(), ALONE, &[])?;
     let plan = read_schedule(rt.alloc(), input.as_slice())?.plan;
     let steps = StepList::new(Vec::new(rt.alloc()));
-    let report = replay(rt.alloc(), &Schedule { plan, steps })?;
+    let mut bench = Bench::new(rt.alloc())?;
+    let report = replay(rt.alloc(), &Schedule { plan, steps }, &mut bench)?;
     assert_eq!(rt;
         report.text.items(),
         b"site 0 time 0 log 0 pending 0\n".as_slice()

@@ -1,5 +1,6 @@
 ghost use Rattle.std.specs.Prelude.{◌<◌};
 
+use disk_store::Bench;
 use helios_top::run;
 use outside_io::{MemSink, MemSource};
 use std::alloc::{AllocError, Global};
@@ -52,9 +53,20 @@ pub(crate) fn run_in_room(
     for word in words {
         texts.push(String::from_str(alloc, word)?)?;
     }
-    let mut source = MemSource::new(input, piece, reads.to_vec(alloc)?);
-    let mut sink = MemSink::new(alloc, room, piece, writes.to_vec(alloc)?)?;
-    let status = run(alloc, &texts, &mut source, &mut sink);
+    let source = MemSource::new(input, piece, reads.to_vec(alloc)?);
+    let sink = MemSink::new(alloc, room, piece, writes.to_vec(alloc)?)?;
+    outcome_of(alloc, &texts, source, sink, &mut Bench::new(alloc)?)
+}
+
+/// What a run over this source, this sink and this bench comes to.
+pub(crate) fn outcome_of(
+    alloc: Global,
+    words: &Vec<String>,
+    mut source: MemSource,
+    mut sink: MemSink,
+    bench: &mut Bench,
+) -> Result<Outcome, AllocError> {
+    let status = run(alloc, words, &mut source, &mut sink, bench);
     Ok(Outcome {
         status: status.0,
         written: sink.taken().to_vec(alloc)?,

@@ -1,5 +1,5 @@
 -- What each planned input asks of a site as the batch begins, and the step of the world that a planned step is.
-use Rattle.std.specs.Prelude.{ℕ, List, [], ◌∷◌, Option, Some, option_map, map, fold, slice_get}
+use Rattle.std.specs.Prelude.{ℕ, List, Option, Some, None, option_map, map, slice_get, if◌then◌else◌}
 use Rattle.std.specs.List.{filter_map}
 use Rattle.helios_model.specs.declared.ids.Version.{Version}
 use Rattle.helios_model.specs.declared.transactions.ReadItem.{ReadItem}
@@ -9,7 +9,9 @@ use Rattle.helios_model.specs.declared.messages.Message.{Message}
 use Rattle.helios_model.specs.declared.records.Record.{Record}
 use Rattle.helios_model.specs.Plans.{PlanData}
 use Rattle.helios_model.specs.Log.{current}
-use Rattle.helios_model.specs.World.{World, Event, Batch, Restart, Done, first_world, happens, node_of}
+use Rattle.helios_model.specs.World.{World, Event, Batch, Restart, Ending, Done, Kept, Lost, node_of}
+use Rattle.disk_store.specs.declared.fate.Stop.{Stop}
+use Rattle.node_journal.specs.Appending.{is_kept}
 use Rattle.schedule_text.specs.declared.planned.PlannedVersion.{PlannedVersion}
 use Rattle.schedule_text.specs.declared.planned.PlannedVersion.TheVariants.{At, Current}
 use Rattle.schedule_text.specs.declared.planned.PlannedRead.{PlannedRead}
@@ -46,23 +48,13 @@ entries_for log sent inputs = filter_map (entry_for log sent) inputs
 abbrev pub entries_at : PlanData → World → ℕ → List Planned → List Entry
 entries_at plan w site inputs = entries_for (node_of plan w site).log w.sent inputs
 
--- the step of the world that a planned step is, where it has no stop
+-- how a batch with this stop ends: a stop at one of the first two calls of its seal loses it, and one at a later call keeps it
+-- where the crash leaves the gate open
+abbrev pub ending_of : Option Stop → Ending
+ending_of None = Done
+ending_of (Some stop) = if is_kept stop.call stop.keep then Kept else Lost
+
+-- the step of the world that a planned step is
 abbrev pub event_for : PlanData → World → Step → Event
-event_for plan w (Steps.Batch site inputs stop) = Batch site (entries_at plan w site inputs) Done
+event_for plan w (Steps.Batch site inputs stop) = Batch site (entries_at plan w site inputs) (ending_of stop)
 event_for plan w (Steps.Restart site stop) = Restart site
-
-abbrev pub after_step : PlanData → World → Step → World
-after_step plan w s = happens plan w (event_for plan w s)
-
--- the world that the steps reach, one after the other
-abbrev pub after_steps : PlanData → World → List Step → World
-after_steps plan w steps = fold (after_step plan) w steps
-
--- the same as a list of steps of the world, each as it is meant in the world that the ones before it reach
-abbrev pub events_for : PlanData → World → List Step → List Event
-events_for plan w [] = []
-events_for plan w (s ∷ ss) = event_for plan w s ∷ events_for plan (after_step plan w s) ss
-
--- the world that a schedule reaches
-abbrev pub reached : PlanData → List Step → World
-reached plan steps = after_steps plan (first_world plan) steps

@@ -1,16 +1,17 @@
--- Which schedules a replay refuses: a step takes in a message that was not sent before it, or one for another site.
-use Rattle.std.specs.Prelude.{◌≡◌, ℕ, ◌+◌, List, [], ◌∷◌, Option, Some, None, nat_eq, if◌then◌else◌, slice_get, ◌++◌, codes, decimal}
+-- Which schedules a replay refuses: too much was written before a step, or the step takes in a message that was not sent before it, or one for
+-- another site.
+use Rattle.std.specs.Prelude.{◌≡◌, ℕ, List, [], ◌∷◌, Option, Some, None, nat_eq, nat_lt, if◌then◌else◌, slice_get, ◌++◌, codes, decimal}
 use Rattle.std.specs.Option.{option_or}
 use Rattle.helios_model.specs.declared.messages.Message.{Message}
 use Rattle.helios_model.specs.Plans.{PlanData}
-use Rattle.helios_model.specs.World.{World, first_world}
+use Rattle.helios_model.specs.World.{World}
 use Rattle.schedule_text.specs.declared.planned.Planned.{Planned}
 use Rattle.schedule_text.specs.declared.planned.Planned.TheVariants.{Get, Status, Request, Pull, Push}
 use Rattle.schedule_text.specs.declared.steps.Step.{Step}
 use Rattle.schedule_text.specs.declared.steps.Step.TheVariants.{Batch, Restart}
 use Rattle.schedule_replay.specs.declared.refusal.ReplayRefusal.{ReplayRefusal}
-use Rattle.schedule_replay.specs.declared.refusal.ReplayRefusal.TheVariants.{NoSuchMessage, NotForSite, NoMemory}
-use Rattle.schedule_replay.specs.Entries.{after_step}
+use Rattle.schedule_replay.specs.declared.refusal.ReplayRefusal.TheVariants.{ReplayFull, NoSuchMessage, NotForSite, NoMemory}
+use Rattle.schedule_replay.specs.Progress.{Progress, first_progress, most_volume, pass, volume}
 
 -- why a site cannot take in what stands at the number of a message: there is none, or it is for another site
 abbrev pub push_refusal : ℕ → ℕ → Option Message → Option ReplayRefusal
@@ -35,27 +36,29 @@ abbrev pub step_refusal : World → ℕ → Step → Option ReplayRefusal
 step_refusal w number (Batch site inputs stop) = inputs_refusal w.sent number site inputs
 step_refusal w number (Restart site stop) = None
 
--- the first refusal of the steps, which are numbered from this number on
-abbrev pub refusal_from : PlanData → World → ℕ → List Step → Option ReplayRefusal
-refusal_from plan w number [] = None
-refusal_from plan w number (s ∷ ss) = option_or (step_refusal w number s) (refusal_from plan (after_step plan w s) (number + 1) ss)
+-- why the next step is refused before it is run
+abbrev pub refusal_of : Progress → Step → Option ReplayRefusal
+refusal_of p s = if nat_lt most_volume (volume p) then Some (ReplayFull p.number) else step_refusal p.world p.number s
+
+-- the first refusal of the steps to come
+abbrev pub refusal_from : PlanData → Progress → List Step → Option ReplayRefusal
+refusal_from plan p [] = None
+refusal_from plan p (s ∷ ss) = option_or (refusal_of p s) (refusal_from plan (pass plan p s) ss)
 
 -- the first refusal of a schedule
-abbrev pub refusal_of : PlanData → List Step → Option ReplayRefusal
-refusal_of plan steps = refusal_from plan (first_world plan) 0 steps
+abbrev pub first_refusal : PlanData → List Step → Option ReplayRefusal
+first_refusal plan steps = refusal_from plan (first_progress plan) steps
 
 -- a refusal is the one that was found; want of memory may come at any time
 abbrev pub IsRefusedBy : Option ReplayRefusal → ReplayRefusal → Type 0
+IsRefusedBy found (ReplayFull step) = found ≡ Some (ReplayFull step)
 IsRefusedBy found (NoSuchMessage step) = found ≡ Some (NoSuchMessage step)
 IsRefusedBy found (NotForSite step) = found ≡ Some (NotForSite step)
 IsRefusedBy found NoMemory = Unit {0}
 
--- a refusal is the first one of the schedule; want of memory may come at any time
-abbrev pub IsRefused : PlanData → List Step → ReplayRefusal → Type 0
-IsRefused plan steps refusal = IsRefusedBy (refusal_of plan steps) refusal
-
 -- how a refusal is printed
 abbrev pub refusal_text : ReplayRefusal → List ℕ
+refusal_text (ReplayFull step) = codes "replay-full " ++ decimal step
 refusal_text (NoSuchMessage step) = codes "no-such-message " ++ decimal step
 refusal_text (NotForSite step) = codes "not-for-site " ++ decimal step
 refusal_text NoMemory = codes "no-memory"

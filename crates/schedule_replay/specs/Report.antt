@@ -1,4 +1,4 @@
--- The report of a schedule: a line for each reply and each restart, then the commits, then what each site has come to.
+-- The lines of a report: one for each reply, each stopped batch and each restart; then the commits, and what each site has come to.
 use Rattle.std.specs.Prelude.{Bool, true, false, ℕ, ◌+◌, ◌-◌, ◌^◌, List, [], ◌∷◌, ◌++◌, length, min, codes, decimal, count_by}
 use Rattle.std.specs.List.{flat_map, range_with_len}
 use Rattle.std.specs.Option.{option_to_list}
@@ -11,10 +11,11 @@ use Rattle.helios_model.specs.declared.records.CommitEvent.{CommitEvent}
 use Rattle.helios_model.specs.Ids.{id_text, version_text}
 use Rattle.helios_model.specs.Plans.{PlanData, count_of}
 use Rattle.helios_model.specs.Node.{Node, clock, own_open}
-use Rattle.helios_model.specs.World.{World, Told, first_world, message_in, node_of, replies}
+use Rattle.helios_model.specs.World.{World, Ending, Done, Kept, Lost, Told, message_in, node_of, replies}
 use Rattle.schedule_text.specs.declared.steps.Step.{Step}
 use Rattle.schedule_text.specs.declared.steps.Step.TheVariants.{Batch, Restart}
-use Rattle.schedule_replay.specs.Entries.{after_step, entries_at, reached}
+use Rattle.schedule_text.specs.declared.planned.Planned.{Planned}
+use Rattle.schedule_replay.specs.Entries.{ending_of, entries_at}
 
 -- the line feed
 abbrev pub line_end : List ℕ
@@ -57,15 +58,16 @@ abbrev pub reply_lines : ℕ → ℕ → List Told → List ℕ
 reply_lines number released [] = []
 reply_lines number released (t ∷ ts) = step_line number t.site (reply_text released t.reply) ++ reply_lines number (released_after released t.reply) ts
 
+-- the lines of a batch: a line for each reply, or one that tells how the batch was stopped
+abbrev pub batch_lines : PlanData → World → ℕ → ℕ → List Planned → Ending → List ℕ
+batch_lines plan w number site inputs Done = reply_lines number (length w.sent) (replies plan (node_of plan w site) (entries_at plan w site inputs))
+batch_lines plan w number site inputs Kept = step_line number site (codes "kept")
+batch_lines plan w number site inputs Lost = step_line number site (codes "lost")
+
 -- the lines of a step with this number
 abbrev pub step_lines : PlanData → World → ℕ → Step → List ℕ
-step_lines plan w number (Batch site inputs stop) = reply_lines number (length w.sent) (replies plan (node_of plan w site) (entries_at plan w site inputs))
+step_lines plan w number (Batch site inputs stop) = batch_lines plan w number site inputs (ending_of stop)
 step_lines plan w number (Restart site stop) = step_line number site (codes "restarted")
-
--- the lines of the steps, which are numbered from this number on
-abbrev pub lines_from : PlanData → World → ℕ → List Step → List ℕ
-lines_from plan w number [] = []
-lines_from plan w number (s ∷ ss) = step_lines plan w number s ++ lines_from plan (after_step plan w s) (number + 1) ss
 
 abbrev pub commit_line : CommitEvent → List ℕ
 commit_line e = codes "commit " ++ id_text e.prepare.id ++ line_end
@@ -81,10 +83,6 @@ site_line plan n = site_text n.site (clock plan n) (min (length n.log) (2 ^ 64 -
 -- the lines after those of the steps: the commits, and what each site has come to
 abbrev pub closing_lines : PlanData → World → List ℕ
 closing_lines plan w = flat_map commit_line w.history ++ flat_map (λ site. site_line plan (node_of plan w site)) (range_with_len 0 (count_of plan))
-
--- the report of a schedule
-abbrev pub report_of : PlanData → List Step → List ℕ
-report_of plan steps = lines_from plan (first_world plan) 0 steps ++ closing_lines plan (reached plan steps)
 
 abbrev pub is_refusal : Reply → Bool
 is_refusal (Prepared id) = false

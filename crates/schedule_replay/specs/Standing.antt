@@ -1,108 +1,87 @@
--- What a replay stands for between its steps, and what it does in one of them.
-use Rattle.std.specs.Prelude.{◌≡◌, ℕ, ◌+◌, ◌*◌, ◌<◌, ◌≤◌, ◌++◌, List, length, All, Option, Some, None, IfSome, IsSome, IsSomeAnd, slice_get, slice_index_or, slice_set}
+-- What the parts of a walk stand for while a step is taken: its site's host and disk, and what was told.
+use Rattle.std.specs.Prelude.{◌≡◌, ◌⊎◌, ℕ, ◌+◌, ◌-◌, ◌^◌, ◌<◌, ◌≤◌, true, List, [], Option, Some, None, length, min, slice_index_or, if◌then◌else◌}
 use Rattle.helios_model.specs.declared.entries.Entry.{Entry}
-use Rattle.helios_model.specs.declared.messages.Message.{Message}
-use Rattle.helios_model.specs.Limits.{most_inputs}
-use Rattle.helios_model.specs.Plans.{PlanData, count_of}
-use Rattle.helios_model.specs.Node.{Node, empty_node}
-use Rattle.helios_model.specs.Spellable.{IsMessageOf}
-use Rattle.helios_model.specs.Step.{IsFor, MayBeAsked, after_entries}
-use Rattle.helios_model.specs.World.{World, MayRun, first_world, messages_in, node_of, own_commits, replies}
-use Rattle.commit_rules.specs.Core.{CoreState, IsCoreOf}
+use Rattle.helios_model.specs.Plans.{PlanData, IsAccepted, count_of}
+use Rattle.helios_model.specs.World.{StepsReach, journal_of}
+use Rattle.disk_store.specs.Memory.{MemState}
+use Rattle.disk_store.specs.declared.fate.Stop.{Stop}
+use Rattle.node_host.specs.States.{HostState}
 use Rattle.schedule_text.specs.declared.planned.Planned.{Planned}
-use Rattle.schedule_text.specs.declared.planned.Planned.TheVariants.{Get, Status, Request, Pull, Push}
 use Rattle.schedule_text.specs.declared.steps.Step.{Step}
-use Rattle.schedule_text.specs.Steps.{IsInput}
-use Rattle.schedule_replay.specs.declared.batches.Output.{Output}
-use Rattle.schedule_replay.specs.Entries.{entries_for, events_for, reached}
+use Rattle.schedule_text.specs.declared.steps.Step.TheVariants.{Batch}
+use Rattle.schedule_text.specs.Steps.{IsStep}
+use Rattle.schedule_replay.specs.declared.output.Output.{Output}
+use Rattle.schedule_replay.specs.Entries.{entries_at}
+use Rattle.schedule_replay.specs.Progress.{Progress, most_volume, progress, site_of, step_frame, volume}
 use Rattle.schedule_replay.specs.Refusals.{refusal_of}
-use Rattle.schedule_replay.specs.Report.{lines_from, refusals_in, reply_lines}
+use Rattle.schedule_replay.specs.Report.{refusals_in}
+use Rattle.schedule_replay.specs.Seats.{IsHolding, IsSeated, with_batch}
+use Rattle.schedule_replay.specs.Walks.{IsSeat}
 
--- a site of the plan can take the input, over the messages that were sent
-abbrev pub CanTake : PlanData → ℕ → List Message → Planned → Type 0
-CanTake plan site sent (Get key) = IsInput plan site (Get key)
-CanTake plan site sent (Status id) = IsInput plan site (Status id)
-CanTake plan site sent (Request at reads puts) = IsInput plan site (Request at reads puts)
-CanTake plan site sent (Pull at to) = IsInput plan site (Pull at to)
-CanTake plan site sent (Push at message) = IfSome (slice_get sent message) (IsFor plan site)
+-- a disk that holds these batches of a site, under their host where there is one; without one there are none
+abbrev pub IsHeld : PlanData → ℕ → List (List Entry) → Option HostState → MemState → Type 0
+IsHeld plan site batches None m = (batches ≡ []) × IsHolding plan site [] m
+IsHeld plan site batches (Some host) m = IsSeated plan site batches host m
 
--- the core stands for a node of this site, which can take these inputs over the messages that were sent
-pub record CanTakeAll (core : CoreState) (site : ℕ) (sent : List Message) (inputs : List Planned) : Type 0 where
-  pub plan : PlanData
-  pub node : Node
-  pub stands : IsCoreOf core plan node
-  pub here : node.site ≡ site
-  pub each : All (CanTake plan site sent) inputs
+abbrev pub IsSomeHeld : PlanData → ℕ → Option HostState → MemState → Type 0
+IsSomeHeld plan site held m = (batches : List (List Entry)) × IsHeld plan site batches held m
 
--- the same where no input is refused: each is one that the plan allows, and each message is of the plan's sites
-pub record CanTakeUnrefused (core : CoreState) (site : ℕ) (sent : List Message) (inputs : List Planned) : Type 0 where
-  pub plan : PlanData
-  pub node : Node
-  pub stands : IsCoreOf core plan node
-  pub here : node.site ≡ site
-  pub each : All (IsInput plan site) inputs
-  pub formed : All (IsMessageOf (count_of plan)) sent
+-- what was told is what these steps tell, and so many bytes were written
+pub record Tells (p : Progress) (written : ℕ) (output : Output) : Type 0 where
+  pub lines : output.text.items ≡ p.lines
+  pub sent : output.sent.items ≡ p.world.sent
+  pub commits : output.commits.items ≡ p.world.history
+  pub refusals : output.refusals ≡ refusals_in p.world.told
+  pub volume : output.volume ≡ min written (2 ^ 64 - 1)
 
--- the core stands for a node of this site, which may be asked these entries
-pub record CanAnswer (core : CoreState) (site : ℕ) (entries : List Entry) : Type 0 where
-  pub plan : PlanData
-  pub node : Node
-  pub stands : IsCoreOf core plan node
-  pub here : node.site ≡ site
-  pub each : All (λ e. MayBeAsked plan site e.input) entries
+-- the step with this number may be taken behind these steps
+pub record IsNext (plan : PlanData) (steps : List Step) (number : ℕ) (s : Step) : Type 0 where
+  pub accepted : IsAccepted plan
+  pub planned : IsStep plan s
+  pub reaches : StepsReach plan (progress plan steps).world
+  pub unrefused : refusal_of (progress plan steps) s ≡ None
+  pub counted : number ≡ (progress plan steps).number
 
--- what these inputs ask of a site with this node may be asked
-abbrev pub AreAsked : PlanData → Node → ℕ → List Message → List Planned → Type 0
-AreAsked plan n site sent inputs = All (λ e. MayBeAsked plan site e.input) (entries_for n.log sent inputs)
+-- how many bytes the head of a site's journal adds, where no step named the site before
+abbrev pub head_size : Progress → ℕ → ℕ
+head_size p site = if slice_index_or p.opened site true then 0 else 39
 
--- a node of a plan took these entries in a step with this number: a core stands for the node after them, the replies were
--- told, and their messages released
-pub record HasTold (number : ℕ) (plan : PlanData) (n : Node) (before : Output) (entries : List Entry) (core : CoreState) (after : Output) : Type 0 where
-  pub stands : IsCoreOf core plan (after_entries plan n entries)
-  pub lines : after.text.items ≡ before.text.items ++ reply_lines number (length before.sent.items) (replies plan n entries)
-  pub sent : after.sent.items ≡ before.sent.items ++ messages_in (replies plan n entries)
-  pub commits : after.commits.items ≡ before.commits.items ++ own_commits n.site (after_entries plan n entries).log (length n.log)
-  pub refusals : after.refusals ≡ before.refusals + refusals_in (replies plan n entries)
-  pub few : after.refusals ≤ before.refusals + length entries
+-- the site of the next step, and what was told before it
+pub record IsPart (plan : PlanData) (steps : List Step) (number : ℕ) (s : Step) (held : Option HostState) (m : MemState) (output : Output) : Type 0 where
+  pub next : IsNext plan steps number s
+  pub seat : IsSeat plan (progress plan steps) (site_of s) held m
+  pub tells : Tells (progress plan steps) (volume (progress plan steps)) output
 
--- the core at a site stands for this node
-abbrev pub StandsAt : List (Option CoreState) → PlanData → ℕ → Node → Type 0
-StandsAt cores plan site n = IsSomeAnd (slice_index_or cores site None) (λ core. IsCoreOf core plan n)
+-- the same with the head of the site's journal counted
+pub record IsBegun (plan : PlanData) (steps : List Step) (number : ℕ) (s : Step) (held : Option HostState) (m : MemState) (output : Output) : Type 0 where
+  pub next : IsNext plan steps number s
+  pub seat : IsSeat plan (progress plan steps) (site_of s) held m
+  pub tells : Tells (progress plan steps) (volume (progress plan steps) + head_size (progress plan steps) (site_of s)) output
 
--- the core at a site can take these inputs, where none is refused
-abbrev pub CanRun : List (Option CoreState) → ℕ → Output → List Planned → Type 0
-CanRun cores site output inputs = (site < length cores) × IsSomeAnd (slice_index_or cores site None) (λ core. CanTakeUnrefused core site output.sent.items inputs)
+-- the host of the batch's site, its entries, and what was told, with its frame counted
+pub record IsBatchAt (plan : PlanData) (steps : List Step) (number site : ℕ) (inputs : List Planned) (stop : Option Stop) (host : HostState) (entries : List Entry) (m : MemState) (output : Output) : Type 0 where
+  pub next : IsNext plan steps number (Batch site inputs stop)
+  pub seated : IsSeated plan site (journal_of (progress plan steps).world site) host m
+  pub low : host.gate ≤ most_volume
+  pub asked : entries ≡ entries_at plan (progress plan steps).world site inputs
+  pub tells : Tells (progress plan steps)
+      (volume (progress plan steps) + head_size (progress plan steps) site + step_frame plan (progress plan steps).world (Batch site inputs stop)) output
 
--- a node of a plan took what these inputs ask as the batch begins, and the core for the node after it stands at its site
-pub record HasRun (number : ℕ) (plan : PlanData) (n : Node) (site : ℕ) (inputs : List Planned) (cores : List (Option CoreState)) (before : Output) (cores' : List (Option CoreState)) (after : Output) : Type 0 where
-  pub core : CoreState
-  pub put : cores' ≡ slice_set cores site (Some core)
-  pub told : HasTold number plan n before (entries_for n.log before.sent.items inputs) core after
-  pub asked : AreAsked plan n site before.sent.items inputs
+-- a batch of some inputs behind some steps
+pub record IsSomeBatch (plan : PlanData) (number site : ℕ) (stop : Option Stop) (host : HostState) (entries : List Entry) (m : MemState) (output : Output) : Type 0 where
+  pub steps : List Step
+  pub inputs : List Planned
+  pub is : IsBatchAt plan steps number site inputs stop host entries m output
 
--- so many cores stand for the empty nodes of the first sites of a plan
-pub record AreFirst (plan : PlanData) (count : ℕ) (cores : List (Option CoreState)) : Type 0 where
-  pub sites : length cores ≡ count
-  pub nodes : (site : ℕ) → site < count → StandsAt cores plan site (empty_node plan site)
+-- the host of a site over its disk, and what was told, stand for how far the steps come
+pub record IsPlaced (plan : PlanData) (p : Progress) (site : ℕ) (host : HostState) (m : MemState) (output : Output) : Type 0 where
+  pub seated : IsSeated plan site (journal_of p.world site) host m
+  pub tells : Tells p (volume p) output
 
--- a core stands at each of so many places
-pub record HasCores (count : ℕ) (cores : List (Option CoreState)) : Type 0 where
-  pub sites : length cores ≡ count
-  pub each : (site : ℕ) → site < count → IsSome (slice_index_or cores site None)
+-- the disk of a step's site holds its journal before the step, or with the step's batch
+abbrev pub IsBetween : PlanData → Progress → Step → MemState → Type 0
+IsBetween plan p s m = IsHolding plan (site_of s) (journal_of p.world (site_of s)) m ⊎ IsHolding plan (site_of s) (journal_of (with_batch plan p.world s) (site_of s)) m
 
--- the cores stand for the nodes of a world
-pub record StandAt (plan : PlanData) (w : World) (cores : List (Option CoreState)) : Type 0 where
-  pub sites : length cores ≡ count_of plan
-  pub nodes : (site : ℕ) → site < count_of plan → StandsAt cores plan site (node_of plan w site)
-
--- cores and output stand for what these steps reach, none of which is refused: each site's node, the lines, the messages, the
--- history and the refusals that were told
-pub record IsStandingAt (plan : PlanData) (steps : List Step) (held : List (Option CoreState)) (output : Output) : Type 0 where
-  pub cores : StandAt plan (reached plan steps) held
-  pub lines : output.text.items ≡ lines_from plan (first_world plan) 0 steps
-  pub sent : output.sent.items ≡ (reached plan steps).sent
-  pub commits : output.commits.items ≡ (reached plan steps).history
-  pub refusals : output.refusals ≡ refusals_in (reached plan steps).told
-  pub few : output.refusals ≤ most_inputs * length steps
-  pub may : MayRun plan (first_world plan) (events_for plan (first_world plan) steps)
-  pub unrefused : refusal_of plan steps ≡ None
+-- the sites' hosts over the disks of a bench, each where a step named it
+abbrev pub AreSeats : PlanData → Progress → List (Option HostState) → List MemState → Type 0
+AreSeats plan p hosts bench = (site : ℕ) (h : Option HostState) (m : MemState) → site < count_of plan → IsSeat plan p site (slice_index_or hosts site h) (slice_index_or bench site m)

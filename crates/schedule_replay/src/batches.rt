@@ -1,150 +1,169 @@
-//! One batch of a replay: its inputs are answered in their order, and the replies told.
-ghost use Rattle.std.specs.Prelude.{◌≡◌, ◌+◌, ◌^◌, ◌<◌, ◌≤◌, ◌++◌, [], ◌∷◌, None, OnOk, IfOk, IfErr, All, length, if◌then◌else◌};
-ghost use Rattle.std.specs.Option.{option_to_list};
-ghost use Rattle.commit_rules.specs.Core.{IsCoreOf};
-ghost use Rattle.helios_model.specs.Node.{Node};
-ghost use Rattle.helios_model.specs.Plans.{PlanData};
-ghost use Rattle.helios_model.specs.World.{message_in};
-ghost use Rattle.schedule_replay.specs.Entries.{entries_for};
-ghost use Rattle.schedule_replay.specs.Refusals.{IsRefusedBy, inputs_refusal};
-ghost use Rattle.schedule_replay.specs.Report.{is_refusal, reply_text, step_line};
-ghost use Rattle.schedule_replay.specs.Standing.{AreAsked, CanAnswer, CanRun, CanTakeAll, HasRun, HasTold, StandsAt};
+//! A batch of a replay: its site's host takes it, and the replies or the stop are told.
+ghost use Rattle.std.specs.Prelude.{◌≡◌, ◌<◌, List, Some, None, IfOk, OnErr, OnOk};
+ghost use Rattle.helios_model.specs.declared.entries.Entry.{Entry};
+ghost use Rattle.helios_model.specs.Plans.{PlanData, IsAccepted, count_of};
+ghost use Rattle.node_journal.specs.Appending.{is_kept};
+ghost use Rattle.schedule_text.specs.declared.planned.Planned.{Planned};
+ghost use Rattle.schedule_text.specs.declared.steps.Step.{Step};
+ghost use Rattle.schedule_text.specs.declared.steps.Step.TheVariants.{Batch};
+ghost use Rattle.schedule_replay.specs.Progress.{pass, progress};
+ghost use Rattle.schedule_replay.specs.Seats.{IsHolding, IsSeated};
+ghost use Rattle.schedule_replay.specs.Taking.{HasStopped};
+ghost use Rattle.schedule_replay.specs.Standing.{IsBatchAt, IsBegun, IsBetween, IsHeld, IsPlaced, IsSomeBatch, IsSomeHeld};
 
 use crate::entries::entries_for;
-use crate::lines::{is_refusal, push_reply_line};
-use crate::refusal::{ReplayRefusal, inputs_refusal};
-use commit_rules::{Core, Outcome};
-use helios_model::{CommitEvent, Entry, Message, Reply, SiteId};
+use crate::host_laws::host_laws;
+use crate::output::Output;
+use crate::seats::{open_seat, run_batch, stop_batch};
+use disk_store::{Keep, MemDisk, Stop};
+use helios_model::{Commits, Entries, Plan, SiteId};
+use node_host::{Batched, Host, Opened, frame_length};
+use protocol_laws::{
+    batch_moves_one_node, each_record_is_spellable, each_reply_is_spellable, each_sent_is_message,
+};
 use schedule_text::Planned;
 use std::alloc::{AllocError, Global};
 
-/// What a replay has told so far.
-#[derive(Drop)]
-pub(crate) struct Output {
-    pub(crate) text: Vec<u8>,
-    /// The messages that were released, each at its number.
-    pub(crate) sent: Vec<Message>,
-    pub(crate) commits: Vec<CommitEvent>,
-    pub(crate) refusals: u64,
+/// Whether a crash after this stop of a batch leaves it in the journal.
+fn is_kept(stop: Stop) -> bool
+    ensures { result ≡ is_kept stop.call stop.keep }
+{
+    match stop.keep {
+        Keep::All => 3 <= stop.call,
+        Keep::Nothing => false,
+        Keep::Byte(byte) => 3 <= stop.call && byte == 1,
+    }
 }
 
-/// Keeps the message of a reply at its number.
-fn release(sent: &mut Vec<Message>, reply: Reply) -> Result<(), AllocError>
-    ensures { OnOk result (sent.new.items ≡ sent.old.items ++ option_to_list (message_in reply)) }
+/// The host of a site, which is opened where no step named the site before.
+fn host_of(
+    alloc: Global,
+    plan: &Plan,
+    site: SiteId,
+    held: Option<Host>,
+    disk: &mut MemDisk,
+) -> Result<Host, AllocError>
+    requires accepted { IsAccepted plan.now }
+    requires here { site < count_of plan.now }
+    requires held { IsSomeHeld plan.now site held disk.old }
+    ensures seated { IfOk result (λ host. (batches : List (List Entry)) → IsHeld plan.now site batches held disk.old → IsSeated plan.now site batches host disk.new) }
+    ensures kept { OnErr result ((batches : List (List Entry)) → IsHeld plan.now site batches held disk.old → IsHolding plan.now site batches disk.new) }
 {
-    if let Reply::Sent(m) = reply {
-        sent.push(m)?;
+    match held {
+        Some(host) => Ok(host),
+        None => {
+            let Opened { host, .. } = open_seat(alloc, plan, site, disk)?;
+            Ok(host)
+        }
+    }
+}
+
+/// Runs a batch, and tells the replies.
+fn run(
+    alloc: Global,
+    plan: &Plan,
+    number: u64,
+    site: SiteId,
+    host: Host,
+    entries: Entries,
+    disk: &mut MemDisk,
+    output: &mut Output,
+) -> Result<Host, AllocError>
+    requires { IsSomeBatch plan.now number site None host entries disk.old output.old }
+    ensures placed { IfOk result (λ after. (steps : List Step) (inputs : List Planned) → IsBatchAt plan.now steps number site inputs None host entries disk.old output.old
+        → IsPlaced plan.now (pass plan.now (progress plan.now steps) (Batch site inputs None)) site after disk.new output.new) }
+    ensures between { OnErr result ((steps : List Step) (inputs : List Planned) → IsBatchAt plan.now steps number site inputs None host entries disk.old output.old
+        → IsBetween plan.now (progress plan.now steps) (Batch site inputs None) disk.new) }
+{
+    host_laws();
+    batch_moves_one_node();
+    each_record_is_spellable();
+    each_sent_is_message();
+    each_reply_is_spellable();
+    let Batched {
+        host,
+        replies,
+        commits,
+    } = run_batch(alloc, host, entries, disk)?;
+    output.tell_all(alloc, number, site, replies.into_items())?;
+    output.commits.append(&mut commits.into_items())?;
+    Ok(host)
+}
+
+/// Tells how a batch was stopped; one that was kept adds its commits.
+fn tell_stop(
+    alloc: Global,
+    number: u64,
+    site: SiteId,
+    stop: Stop,
+    last: Commits,
+    output: &mut Output,
+) -> Result<(), AllocError>
+    ensures { OnOk result (HasStopped number site stop last output.old output.new) }
+{
+    let is_kept = is_kept(stop);
+    output.tell_stopped(alloc, number, site, is_kept)?;
+    if is_kept {
+        output.commits.append(&mut last.into_items())?;
     }
     Ok(())
 }
 
-impl Output {
-    /// Tells a reply, and releases its message.
-    fn tell(
-        &mut self,
-        alloc: Global,
-        number: u64,
-        site: SiteId,
-        reply: Reply,
-    ) -> Result<(), AllocError>
-        requires { self.old.refusals + 1 < 2 ^ 64 }
-        ensures text { OnOk result (self.new.text.items ≡ self.old.text.items ++ step_line number site (reply_text (length self.old.sent.items) reply)) }
-        ensures sent { OnOk result (self.new.sent.items ≡ self.old.sent.items ++ option_to_list (message_in reply)) }
-        ensures commits { OnOk result (self.new.commits.items ≡ self.old.commits.items) }
-        ensures refusals { OnOk result (self.new.refusals ≡ self.old.refusals + (if is_refusal reply then 1 else 0)) }
-    {
-        let released = self.sent.len();
-        push_reply_line(alloc, &mut self.text, number, site, released, &reply)?;
-        if is_refusal(&reply) {
-            self.refusals += 1;
-        }
-        release(&mut self.sent, reply)
-    }
-}
-
-/// Answers one input, and tells the reply.
-fn answer(
+/// Runs a batch whose seal stops, and tells whether the crash kept it.
+fn run_stopped(
     alloc: Global,
-    core: Core,
+    plan: &Plan,
     number: u64,
     site: SiteId,
-    entry: Entry,
+    host: Host,
+    entries: Entries,
+    stop: Stop,
+    disk: &mut MemDisk,
     output: &mut Output,
-) -> Result<Core, AllocError>
-    requires can { CanAnswer core site (entry ∷ []) }
-    requires room { output.old.refusals + 1 < 2 ^ 64 }
-    ensures { IfOk result (λ after. (plan : PlanData) (n : Node) → IsCoreOf core plan n → n.site ≡ site → HasTold number plan n output.old (entry ∷ []) after output.new) }
+) -> Result<Host, AllocError>
+    requires { IsSomeBatch plan.now number site (Some stop) host entries disk.old output.old }
+    ensures placed { IfOk result (λ after. (steps : List Step) (inputs : List Planned) → IsBatchAt plan.now steps number site inputs (Some stop) host entries disk.old output.old
+        → IsPlaced plan.now (pass plan.now (progress plan.now steps) (Batch site inputs (Some stop))) site after disk.new output.new) }
+    ensures between { OnErr result ((steps : List Step) (inputs : List Planned) → IsBatchAt plan.now steps number site inputs (Some stop) host entries disk.old output.old
+        → IsBetween plan.now (progress plan.now steps) (Batch site inputs (Some stop)) disk.new) }
 {
-    let Outcome {
-        core,
-        reply,
-        commits,
-        ..
-    } = core.step(entry)?;
-    output.tell(alloc, number, site, reply)?;
-    output.commits.append(&mut commits.into_items())?;
-    Ok(core)
+    host_laws();
+    batch_moves_one_node();
+    each_record_is_spellable();
+    each_sent_is_message();
+    let Opened { host, last, .. } = stop_batch(alloc, plan, host, entries, stop, disk)?;
+    tell_stop(alloc, number, site, stop, last, output)?;
+    Ok(host)
 }
 
-/// Answers the inputs of a batch, one after the other, and tells the replies.
-fn answer_all(
-    alloc: Global,
-    first: Core,
-    number: u64,
-    site: SiteId,
-    entries: Vec<Entry>,
-    output: &mut Output,
-) -> Result<Core, AllocError>
-    requires can { CanAnswer first site entries.items }
-    requires room { output.old.refusals + length entries.items < 2 ^ 64 }
-    ensures { IfOk result (λ after. (plan : PlanData) (n : Node) → IsCoreOf first plan n → n.site ≡ site → HasTold number plan n output.old entries.items after output.new) }
-{
-    let mut core = first;
-    for entry in entries {
-        core = answer(alloc, core, number, site, entry, output)?;
-    }
-    Ok(core)
-}
-
-/// Runs a batch, each of whose inputs the site can take.
-fn run_batch(
-    alloc: Global,
-    core: Core,
-    number: u64,
-    site: SiteId,
-    inputs: &[Planned],
-    output: &mut Output,
-) -> Result<Core, AllocError>
-    requires can { CanTakeAll core site output.old.sent.items inputs.now }
-    requires room { output.old.refusals + length inputs.now < 2 ^ 64 }
-    ensures told { IfOk result (λ after. (plan : PlanData) (n : Node) → IsCoreOf core plan n → n.site ≡ site → HasTold number plan n output.old (entries_for n.log output.old.sent.items inputs.now) after output.new) }
-    ensures asked { OnOk result ((plan : PlanData) (n : Node) → IsCoreOf core plan n → n.site ≡ site → AreAsked plan n site output.old.sent.items inputs.now) }
-{
-    let entries = entries_for(alloc, &core, output.sent.as_slice(), inputs)?;
-    answer_all(alloc, core, number, site, entries, output)
-}
-
-/// Runs a batch at its site, unless one of its inputs is refused.
+/// Runs a batch at its site.
 pub(crate) fn take_batch(
     alloc: Global,
-    cores: &mut Vec<Option<Core>>,
+    plan: &Plan,
     number: u64,
     site: SiteId,
     inputs: &[Planned],
+    stop: Option<Stop>,
+    held: Option<Host>,
+    disk: &mut MemDisk,
     output: &mut Output,
-) -> Result<(), ReplayRefusal>
-    requires can { CanRun cores.old.items site output.old inputs.now }
-    requires room { output.old.refusals + length inputs.now < 2 ^ 64 }
-    ensures run { OnOk result ((plan : PlanData) (n : Node) → StandsAt cores.old.items plan site n → n.site ≡ site → HasRun number plan n site inputs.now cores.old.items output.old cores.new.items output.new) }
-    ensures unrefused { OnOk result (inputs_refusal output.old.sent.items number site inputs.now ≡ None) }
-    ensures refused { IfErr result (IsRefusedBy (inputs_refusal output.old.sent.items number site inputs.now)) }
+) -> Result<Host, AllocError>
+    requires { (steps : List Step) × IsBegun plan.now steps number (Batch site inputs.now stop) held disk.old output.old }
+    ensures placed { IfOk result (λ after. (steps : List Step) → IsBegun plan.now steps number (Batch site inputs.now stop) held disk.old output.old
+        → IsPlaced plan.now (pass plan.now (progress plan.now steps) (Batch site inputs.now stop)) site after disk.new output.new) }
+    ensures between { OnErr result ((steps : List Step) → IsBegun plan.now steps number (Batch site inputs.now stop) held disk.old output.old
+        → IsBetween plan.now (progress plan.now steps) (Batch site inputs.now stop) disk.new) }
 {
-    if let Some(refusal) = inputs_refusal(output.sent.as_slice(), number, site, inputs) {
-        return Err(refusal);
+    host_laws();
+    batch_moves_one_node();
+    each_record_is_spellable();
+    each_sent_is_message();
+    let host = host_of(alloc, plan, site, held, disk)?;
+    let entries = entries_for(alloc, &host, output.sent.as_slice(), inputs)?;
+    let entries = Entries::new(entries);
+    output.count(frame_length(&entries));
+    match stop {
+        None => run(alloc, plan, number, site, host, entries, disk, output),
+        Some(stop) => run_stopped(alloc, plan, number, site, host, entries, stop, disk, output),
     }
-    let place = site.number() as usize;
-    let core = cores[place].take().unwrap();
-    let core = run_batch(alloc, core, number, site, inputs, output)?;
-    cores[place] = Some(core);
-    Ok(())
 }

@@ -1,15 +1,22 @@
-//! Replays a schedule at the sites of a cluster, each with its core, step by step.
-//! The layer above uses `replay`: its report is that of the world which the steps reach by the rules of the node, and
-//! its refusal is the first one of the steps.
+//! Replays a schedule at the sites of a cluster, each with its host over its disk of a bench, step by step.
+//! The layer above uses `replay`, or a `Walk` step by step: the report is that of the world which the steps reach by the rules of the node,
+//! each disk stands for its site's journal there, and a refusal is the first one of the steps.
 #![tactic(auto)]
 
 mod batches;
+mod closing;
 mod entries;
+mod host_laws;
 mod lines;
+mod output;
 mod refusal;
+mod replaying;
 mod report;
-mod steps;
+mod seats;
+mod taking;
+mod walk;
 
 pub use refusal::ReplayRefusal;
+pub use replaying::replay;
 pub use report::Report;
-pub use steps::replay;
+pub use walk::Walk;

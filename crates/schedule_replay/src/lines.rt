@@ -1,5 +1,5 @@
 //! The lines of a report.
-ghost use Rattle.std.specs.Prelude.{◌≡◌, ◌++◌, OnOk, length, codes, decimal};
+ghost use Rattle.std.specs.Prelude.{◌≡◌, ◌++◌, OnOk, length, codes, decimal, if◌then◌else◌};
 ghost use Rattle.schedule_replay.specs.Report.{commit_line, is_refusal, reply_text, site_text, state_text, step_line, value_text};
 ghost use Rattle.helios_model.specs.Ids.{version_text};
 
@@ -166,6 +166,25 @@ pub(crate) fn push_restart_line(
     push_head(alloc, text, number, site)?;
     text.extend_from_slice(b"restarted")?;
     text.extend_from_slice(b"\n")?;
+    Ok(())
+}
+
+/// Adds the line of a stopped batch.
+pub(crate) fn push_stopped_line(
+    alloc: Global,
+    text: &mut Vec<u8>,
+    number: u64,
+    site: SiteId,
+    is_kept: bool,
+) -> Result<(), AllocError>
+    ensures { OnOk result (text.new.items ≡ text.old.items ++ step_line number site (if is_kept then codes "kept" else codes "lost")) }
+{
+    push_head(alloc, text, number, site)?;
+    if is_kept {
+        text.extend_from_slice(b"kept\n")?;
+    } else {
+        text.extend_from_slice(b"lost\n")?;
+    }
     Ok(())
 }
 

@@ -1,4 +1,4 @@
-//! Why a schedule is refused: the first step that takes in a message which it cannot take in.
+//! Why a schedule is refused: the first step before which too much was written, or that takes in a message which it cannot take in.
 ghost use Rattle.std.specs.Prelude.{◌≡◌, Some, option_map, slice_get};
 ghost use Rattle.schedule_replay.specs.Refusals.{input_refusal, inputs_refusal, push_refusal, refusal_text};
 ghost use Rattle.schedule_replay.specs.declared.refusal.ReplayRefusal.TheVariants.{NoMemory};
@@ -11,6 +11,8 @@ use std::fmt;
 /// Why a schedule is refused at a step, by its number from 0, or that memory ran out.
 #[derive(Clone, Copy, Debug, PartialEq, Eq)]
 pub enum ReplayRefusal {
+    /// More than 2^28 bytes were written before the step.
+    ReplayFull { step: u64 },
     /// The step takes in a message, and fewer were sent before it.
     NoSuchMessage { step: u64 },
     /// The step takes in a message that is for another site.
@@ -23,6 +25,7 @@ impl fmt::Display for ReplayRefusal {
 
     fn fmt<W: fmt::Write>(&self, f: &mut fmt::Formatter<W>) -> fmt::Result {
         match self {
+            ReplayRefusal::ReplayFull { step } => write!(f, "replay-full {step}"),
             ReplayRefusal::NoSuchMessage { step } => write!(f, "no-such-message {step}"),
             ReplayRefusal::NotForSite { step } => write!(f, "not-for-site {step}"),
             ReplayRefusal::NoMemory => write!(f, "no-memory"),

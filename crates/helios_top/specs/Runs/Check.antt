@@ -31,5 +31,6 @@ abbrev pub IsCheckAnswer : Ending → List ℕ → Type 0
 IsCheckAnswer ending text = IsOkAnd (plan_of_text text) (λ read. IsJudged read.0 read.1.pair ending)
 
 -- what a run of `check` does, whatever end it comes to
-abbrev pub CheckRun : Outside → Outside → Ending → Type 0
-CheckRun before after ending = ReadsInput Check before.input after.input ending (IsCheckAnswer ending)
+pub record CheckRun (before after : Outside) (ending : Ending) : Type 0 where
+  pub reads : ReadsInput Check before.input after.input ending (IsCheckAnswer ending)
+  pub bench : after.bench ≡ before.bench

@@ -30,5 +30,6 @@ abbrev pub IsPlanAnswer : Ending → List ℕ → Type 0
 IsPlanAnswer ending text = IsOkAnd (matrix_of_text text) (λ matrix. IsPlanned matrix ending)
 
 -- what a run of `plan` does, whatever end it comes to
-abbrev pub PlanRun : Outside → Outside → Ending → Type 0
-PlanRun before after ending = ReadsInput Plan before.input after.input ending (IsPlanAnswer ending)
+pub record PlanRun (before after : Outside) (ending : Ending) : Type 0 where
+  pub reads : ReadsInput Plan before.input after.input ending (IsPlanAnswer ending)
+  pub bench : after.bench ≡ before.bench

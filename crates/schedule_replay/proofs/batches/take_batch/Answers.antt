@@ -1,31 +1,109 @@
-use Rattle.std.proofs.Common.{◌≡◌, ◌∙◌, ap, sym, None, Some, get_or, set, subst, IsSomeAnd}
-use Rattle.std.proofs.lemmas.List.{set-set}
-use Rattle.commit_rules.specs.Core.{IsCoreOf}
-use Rattle.schedule_replay.specs.Refusals.{inputs_refusal}
-use Rattle.schedule_replay.specs.Standing.{CanTakeUnrefused}
-use Rattle.schedule_replay.proofs.Handed.{all_taken, core_here}
+use Rattle.std.proofs.Common.{◌∙◌, ap, refl, sym, subst, List, All, Some, None}
+use Rattle.std.specs.Prelude.{OnErr}
+use Rattle.helios_model.specs.World.{journal_of}
+use Rattle.schedule_text.specs.declared.steps.Step.{Step}
+use Rattle.schedule_text.specs.declared.steps.Step.TheVariants.{Batch}
+use Rattle.schedule_replay.specs.Progress.{progress}
+use Rattle.schedule_replay.specs.Standing.{IsBatchAt, IsBegun, IsBetween}
+use Rattle.schedule_replay.proofs.Runs.{batch_at, batch_few, batch_takes, batch_written, begun_between, begun_holds, begun_placed, entries_here, on_err, seat_held, seated_holds}
 use Rattle.schedule_replay.proofs.batches.take_batch.Goals as goal
 
-pub run_batch-requires : goal.run_batch-requires
-run_batch-requires c =
-    let here : get_or c.args.cores.now.items c.args.site None ≡ Some c.unwrap-core.result =
-    core_here c.args.cores.now.items c.number-place.result c.args.site c.index_mut.result.now c.unwrap-core.result c.requires.can.0 c.number-place.ensures.value c.index_mut.ensures.value (sym c.take.ensures.value ∙ c.unwrap-core.ensures) in
-    let unrefused : inputs_refusal c.args.output.now.sent.items c.args.number c.args.site c.args.inputs.now ≡ None =
-    ap (λ sent. inputs_refusal sent c.args.number c.args.site c.args.inputs.now) (sym c.as_slice.ensures.value) ∙ sym c.inputs_refusal.ensures ∙ c.in_default.is in
-    record {
-      can = all_taken c.unwrap-core.result c.args.number c.args.site c.args.output.now.sent.items c.args.inputs.now
-          (subst (λ o. IsSomeAnd o (λ core. CanTakeUnrefused core c.args.site c.args.output.now.sent.items c.args.inputs.now)) here c.requires.can.1) unrefused;
-      room = c.requires.room;
-    }
+pub host_of-requires : goal.host_of-requires
+host_of-requires c = record {
+  accepted = c.requires.1.next.accepted;
+  here = c.requires.1.next.planned.here;
+  held = (journal_of (progress c.args.plan.now c.requires.0).world c.args.site, seat_held c.args.plan.now (progress c.args.plan.now c.requires.0) c.args.site c.args.held c.args.disk.now c.requires.1.seat);
+}
 
-pub returns-clause-run : goal.returns-clause-run
-returns-clause-run c = λ plan n h here.
-    let slot : get_or c.args.cores.now.items c.args.site None ≡ Some c.unwrap-core.result =
-    core_here c.args.cores.now.items c.number-place.result c.args.site c.index_mut.result.now c.unwrap-core.result c.requires.can.0 c.number-place.ensures.value c.index_mut.ensures.value (sym c.take.ensures.value ∙ c.unwrap-core.ensures) in
-    let stands : IsCoreOf c.unwrap-core.result plan n = subst (λ o. IsSomeAnd o (λ core. IsCoreOf core plan n)) slot h in
-    record {
-      core = c.in_ok-core.core;
-      put = set-set c.args.cores.now.items c.number-place.result c.take.new.self (Some c.in_ok-core.core) ∙ ap (λ k. set c.args.cores.now.items k (Some c.in_ok-core.core)) c.number-place.ensures.value;
-      told = c.in_ok-core.ensures.told plan n stands here;
-      asked = c.in_ok-core.ensures.asked plan n stands here;
-    }
+pub entries_for-requires : goal.entries_for-requires
+entries_for-requires c =
+    batch_takes c.each_sent_is_message.ensures c.args.plan.now c.requires.0 c.args.number c.args.site c.args.inputs.now c.args.stop c.args.held c.in_ok-host.host c.as_slice.result.now
+    c.args.disk.now c.host_of.new.disk c.args.output.now c.requires.1 c.in_ok-host.ensures.seated c.as_slice.ensures.value
+
+pub frame_length-requires : goal.frame_length-requires
+frame_length-requires c = record {
+  few = batch_few c.args.plan.now c.requires.0 c.args.number c.args.site c.args.inputs.now c.args.stop c.new-entries.result
+      (c.new-entries.ensures ∙ entries_here c.host_laws.ensures.recovered c.args.plan.now c.requires.0 c.args.number c.args.site c.args.inputs.now c.args.stop c.args.held c.in_ok-host.host
+      c.in_ok-entries.entries.items c.as_slice.result.now c.args.disk.now c.host_of.new.disk c.args.output.now c.requires.1 c.in_ok-host.ensures.seated c.in_ok-entries.ensures.value
+      c.as_slice.ensures.value)
+      c.requires.1.next;
+  written = batch_written c.in_ok-host.host c.new-entries.result c.in_ok-entries.entries.items c.new-entries.ensures c.in_ok-entries.ensures.asked;
+}
+
+pub run-requires : goal.run-requires
+run-requires c = record {
+  steps = c.requires.0;
+  inputs = c.args.inputs.now;
+  is = subst (λ st. IsBatchAt c.args.plan.now c.requires.0 c.args.number c.args.site c.args.inputs.now st c.in_ok-host.host c.new-entries.result c.host_of.new.disk c.count.new.self) c.in-None.is
+      (batch_at c.host_laws.ensures.ends c.host_laws.ensures.recovered c.args.plan.now c.requires.0 c.args.number c.args.site c.args.inputs.now c.args.stop c.args.held c.in_ok-host.host
+      c.new-entries.result c.as_slice.result.now c.frame_length.result c.args.disk.now c.host_of.new.disk c.args.output.now c.count.new.self c.requires.1 c.in_ok-host.ensures.seated
+      (λ pl n k. c.new-entries.ensures ∙ c.in_ok-entries.ensures.value pl n k) c.as_slice.ensures.value c.frame_length.ensures.value
+      (ap (λ v. v.items) c.count.ensures.text) (ap (λ v. v.items) c.count.ensures.sent) (ap (λ v. v.items) c.count.ensures.commits) c.count.ensures.refusals c.count.ensures.volume);
+}
+
+pub run_stopped-requires : goal.run_stopped-requires
+run_stopped-requires c = record {
+  steps = c.requires.0;
+  inputs = c.args.inputs.now;
+  is = subst (λ st. IsBatchAt c.args.plan.now c.requires.0 c.args.number c.args.site c.args.inputs.now st c.in_ok-host.host c.new-entries.result c.host_of.new.disk c.count.new.self) c.in-Some.is
+      (batch_at c.host_laws.ensures.ends c.host_laws.ensures.recovered c.args.plan.now c.requires.0 c.args.number c.args.site c.args.inputs.now c.args.stop c.args.held c.in_ok-host.host
+      c.new-entries.result c.as_slice.result.now c.frame_length.result c.args.disk.now c.host_of.new.disk c.args.output.now c.count.new.self c.requires.1 c.in_ok-host.ensures.seated
+      (λ pl n k. c.new-entries.ensures ∙ c.in_ok-entries.ensures.value pl n k) c.as_slice.ensures.value c.frame_length.ensures.value
+      (ap (λ v. v.items) c.count.ensures.text) (ap (λ v. v.items) c.count.ensures.sent) (ap (λ v. v.items) c.count.ensures.commits) c.count.ensures.refusals c.count.ensures.volume);
+}
+
+pub returns-in_err-host-clause-between : goal.returns-in_err-host-clause-between
+returns-in_err-host-clause-between c =
+    on_err ((steps : List Step) → IsBegun c.args.plan.now steps c.args.number (Batch c.args.site c.args.inputs.now c.args.stop) c.args.held c.args.disk.now c.args.output.now
+    → IsBetween c.args.plan.now (progress c.args.plan.now steps) (Batch c.args.site c.args.inputs.now c.args.stop) c.host_of.new.disk)
+    c.from_residual.result
+    (λ steps b. begun_holds c.args.plan.now steps c.args.number (Batch c.args.site c.args.inputs.now c.args.stop) c.args.site c.args.held c.args.disk.now c.host_of.new.disk c.args.output.now b refl
+    c.in_err-host.ensures.kept)
+
+pub returns-in_err-entries-clause-between : goal.returns-in_err-entries-clause-between
+returns-in_err-entries-clause-between c =
+    on_err ((steps : List Step) → IsBegun c.args.plan.now steps c.args.number (Batch c.args.site c.args.inputs.now c.args.stop) c.args.held c.args.disk.now c.args.output.now
+    → IsBetween c.args.plan.now (progress c.args.plan.now steps) (Batch c.args.site c.args.inputs.now c.args.stop) c.host_of.new.disk)
+    c.from_residual-in_err-entries.result
+    (λ steps b. begun_holds c.args.plan.now steps c.args.number (Batch c.args.site c.args.inputs.now c.args.stop) c.args.site c.args.held c.args.disk.now c.host_of.new.disk c.args.output.now b refl
+    (λ batches k. seated_holds c.args.plan.now c.args.site batches c.in_ok-host.host c.host_of.new.disk (c.in_ok-host.ensures.seated batches k)))
+
+pub returns-in-None-clause-placed : goal.returns-in-None-clause-placed
+returns-in-None-clause-placed c =
+    begun_placed c.args.plan.now c.args.number c.args.site c.args.inputs.now c.args.stop None c.args.held c.in_ok-host.host c.new-entries.result c.args.disk.now c.host_of.new.disk c.run.new.disk
+    c.args.output.now c.count.new.self c.run.new.output c.run.result c.in-None.is
+    (λ steps b. batch_at c.host_laws.ensures.ends c.host_laws.ensures.recovered c.args.plan.now steps c.args.number c.args.site c.args.inputs.now c.args.stop c.args.held c.in_ok-host.host
+    c.new-entries.result c.as_slice.result.now c.frame_length.result c.args.disk.now c.host_of.new.disk c.args.output.now c.count.new.self b c.in_ok-host.ensures.seated
+    (λ pl n k. c.new-entries.ensures ∙ c.in_ok-entries.ensures.value pl n k) c.as_slice.ensures.value c.frame_length.ensures.value
+    (ap (λ v. v.items) c.count.ensures.text) (ap (λ v. v.items) c.count.ensures.sent) (ap (λ v. v.items) c.count.ensures.commits) c.count.ensures.refusals c.count.ensures.volume)
+    c.run.ensures.placed
+
+pub returns-in-None-clause-between : goal.returns-in-None-clause-between
+returns-in-None-clause-between c =
+    begun_between c.args.plan.now c.args.number c.args.site c.args.inputs.now c.args.stop None c.args.held c.in_ok-host.host c.new-entries.result c.args.disk.now c.host_of.new.disk c.run.new.disk
+    c.args.output.now c.count.new.self c.run.result c.in-None.is
+    (λ steps b. batch_at c.host_laws.ensures.ends c.host_laws.ensures.recovered c.args.plan.now steps c.args.number c.args.site c.args.inputs.now c.args.stop c.args.held c.in_ok-host.host
+    c.new-entries.result c.as_slice.result.now c.frame_length.result c.args.disk.now c.host_of.new.disk c.args.output.now c.count.new.self b c.in_ok-host.ensures.seated
+    (λ pl n k. c.new-entries.ensures ∙ c.in_ok-entries.ensures.value pl n k) c.as_slice.ensures.value c.frame_length.ensures.value
+    (ap (λ v. v.items) c.count.ensures.text) (ap (λ v. v.items) c.count.ensures.sent) (ap (λ v. v.items) c.count.ensures.commits) c.count.ensures.refusals c.count.ensures.volume)
+    c.run.ensures.between
+
+pub returns-in-Some-clause-placed : goal.returns-in-Some-clause-placed
+returns-in-Some-clause-placed c =
+    begun_placed c.args.plan.now c.args.number c.args.site c.args.inputs.now c.args.stop (Some c.in-Some.stop) c.args.held c.in_ok-host.host c.new-entries.result c.args.disk.now c.host_of.new.disk c.run_stopped.new.disk
+    c.args.output.now c.count.new.self c.run_stopped.new.output c.run_stopped.result c.in-Some.is
+    (λ steps b. batch_at c.host_laws.ensures.ends c.host_laws.ensures.recovered c.args.plan.now steps c.args.number c.args.site c.args.inputs.now c.args.stop c.args.held c.in_ok-host.host
+    c.new-entries.result c.as_slice.result.now c.frame_length.result c.args.disk.now c.host_of.new.disk c.args.output.now c.count.new.self b c.in_ok-host.ensures.seated
+    (λ pl n k. c.new-entries.ensures ∙ c.in_ok-entries.ensures.value pl n k) c.as_slice.ensures.value c.frame_length.ensures.value
+    (ap (λ v. v.items) c.count.ensures.text) (ap (λ v. v.items) c.count.ensures.sent) (ap (λ v. v.items) c.count.ensures.commits) c.count.ensures.refusals c.count.ensures.volume)
+    c.run_stopped.ensures.placed
+
+pub returns-in-Some-clause-between : goal.returns-in-Some-clause-between
+returns-in-Some-clause-between c =
+    begun_between c.args.plan.now c.args.number c.args.site c.args.inputs.now c.args.stop (Some c.in-Some.stop) c.args.held c.in_ok-host.host c.new-entries.result c.args.disk.now c.host_of.new.disk c.run_stopped.new.disk
+    c.args.output.now c.count.new.self c.run_stopped.result c.in-Some.is
+    (λ steps b. batch_at c.host_laws.ensures.ends c.host_laws.ensures.recovered c.args.plan.now steps c.args.number c.args.site c.args.inputs.now c.args.stop c.args.held c.in_ok-host.host
+    c.new-entries.result c.as_slice.result.now c.frame_length.result c.args.disk.now c.host_of.new.disk c.args.output.now c.count.new.self b c.in_ok-host.ensures.seated
+    (λ pl n k. c.new-entries.ensures ∙ c.in_ok-entries.ensures.value pl n k) c.as_slice.ensures.value c.frame_length.ensures.value
+    (ap (λ v. v.items) c.count.ensures.text) (ap (λ v. v.items) c.count.ensures.sent) (ap (λ v. v.items) c.count.ensures.commits) c.count.ensures.refusals c.count.ensures.volume)
+    c.run_stopped.ensures.between

@@ -15,9 +15,9 @@ loop-input-preserved c =
           c.push_found.new.entries.items c.in_ok-entry_for.field-0 low c.input-item.is c.in_ok-push_found.ensures (c.in_ok-entry_for.ensures.value plan n h)
           (c.loop-input.invariant.value plan n h);
       asked =
-          subst (All (λ e. MayBeAsked c.args.core.now.plan c.args.core.now.site e.input)) (sym c.in_ok-push_found.ensures)
-          (All-append (λ e. MayBeAsked c.args.core.now.plan c.args.core.now.site e.input) c.loop-input.entries.items _ c.loop-input.invariant.asked
-          (all_found (λ e. MayBeAsked c.args.core.now.plan c.args.core.now.site e.input) c.in_ok-entry_for.field-0 c.in_ok-entry_for.ensures.asked));
+          subst (All (λ e. MayBeAsked c.args.host.now.core.plan c.args.host.now.core.site e.input)) (sym c.in_ok-push_found.ensures)
+          (All-append (λ e. MayBeAsked c.args.host.now.core.plan c.args.host.now.core.site e.input) c.loop-input.entries.items _ c.loop-input.invariant.asked
+          (all_found (λ e. MayBeAsked c.args.host.now.core.plan c.args.host.now.core.site e.input) c.in_ok-entry_for.field-0 c.in_ok-entry_for.ensures.asked));
     }
 
 pub returns-clause-value : goal.returns-clause-value

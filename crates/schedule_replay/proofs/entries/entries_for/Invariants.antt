@@ -8,6 +8,6 @@ use Rattle.schedule_replay.proofs.entries.entries_for.Given as goal
 
 abbrev pub invariant-loop-input : goal.invariant-loop-input
 invariant-loop-input l = record {
-  value : (plan : PlanData) (n : Node) → IsCoreOf l.core plan n → l.entries.items ≡ entries_for n.log l.sent (take l.input-index l.inputs);
-  asked : All (λ e. MayBeAsked l.core.plan l.core.site e.input) l.entries.items;
+  value : (plan : PlanData) (n : Node) → IsCoreOf l.host.core plan n → l.entries.items ≡ entries_for n.log l.sent (take l.input-index l.inputs);
+  asked : All (λ e. MayBeAsked l.host.core.plan l.host.core.site e.input) l.entries.items;
 }
