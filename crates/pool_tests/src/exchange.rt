@@ -1,4 +1,4 @@
-ghost use Rattle.std.specs.Prelude.{◌≡◌, IfOk};
+ghost use Rattle.std.specs.Prelude.{◌≡◌, ◌<◌, IfOk};
 
 use helios_model::{Record, SiteId, Time, TxnId};
 use log_exchange::ExchangeLog;
@@ -46,39 +46,72 @@ fn table(alloc: Global, first: u64, other: u64) -> Result<TimeTable, Fail>
     Ok(t)
 }
 
+/// What a log of site 0 keeps and is to send to site 1.
+#[derive(Debug, Drop, PartialEq)]
+struct Due {
+    retained: usize,
+    times: Vec<Time>,
+    cover: Vec<u64>,
+}
+
+/// What the log has to send by a table, once what the table tells that each site has was dropped.
+fn sends(alloc: Global, log: &mut ExchangeLog, first: u64, other: u64) -> Result<Due, Fail>
+    requires { log.old.count ≡ 2 }
+    ensures { IfOk result (λ _. log.new.count ≡ 2) }
+{
+    let t = table(alloc, first, other)?;
+    log.drop_known(&t);
+    let (records, cover) = log.select(SiteId::of(1), &t)?;
+    Ok(Due {
+        retained: log.retained(),
+        times: records.items().iter().map(|r| r.own_time()).collect(alloc)?,
+        cover: cover.items().to_vec(alloc)?,
+    })
+}
+
+/// So many records are kept, and the message has these times and covers site 0 up to this one.
+fn kept(alloc: Global, retained: usize, times: &[u64], cover: u64) -> Result<Due, Fail> {
+    Ok(Due {
+        retained,
+        times: times.iter().map(|time| Time::of(*time)).collect(alloc)?,
+        cover: vec![in alloc; cover, 0]?,
+    })
+}
+
+/// The times from one to another, both among them.
+fn from_to(alloc: Global, first: u64, last: u64) -> Result<Vec<u64>, Fail>
+    requires { last < 100 }
+{
+    let mut times = Vec::new(alloc);
+    for time in first..last + 1 {
+        times.push(time)?;
+    }
+    Ok(times)
+}
+
 #[test]
 fn a_record_is_kept_until_each_site_has_it(rt: HostRuntime) -> Result<(), Fail> {
     let alloc = rt.alloc();
     let mut log = log_of(alloc, 0, &[5, 9])?;
-    assert_eq!(rt; log.retained(), 2);
-    log.drop_known(&table(alloc, 9, 5)?);
-    assert_eq!(rt; log.retained(), 1);
-    let (records, cover) = log.select(SiteId::of(1), &table(alloc, 9, 5)?)?;
-    assert_eq!(rt; records.items().len(), 1);
-    let first = records.items().first().ok_or("a record")?;
-    assert_eq!(rt; first.own_time(), Time::of(9));
-    assert_eq!(rt; cover.items(), [9, 0].as_slice());
-    log.drop_known(&table(alloc, 9, 9)?);
-    assert_eq!(rt; log.retained(), 0);
+    let seen = [sends(alloc, &mut log, 9, 5)?, sends(alloc, &mut log, 9, 9)?];
+    let wanted = [kept(alloc, 1, &[9], 9)?, kept(alloc, 0, &[], 9)?];
+    assert_eq!(rt; seen, wanted);
     Ok(())
 }
 
 #[test]
 fn a_message_is_cut_before_the_first_that_is_left_off(rt: HostRuntime) -> Result<(), Fail> {
     let alloc = rt.alloc();
-    let mut times = Vec::new(alloc);
-    for time in 1..71u64 {
-        times.push(time)?;
-    }
-    let log = log_of(alloc, 0, &times)?;
-    let (records, cover) = log.select(SiteId::of(1), &table(alloc, 70, 0)?)?;
-    assert_eq!(rt; records.items().len(), 64);
-    assert_eq!(rt; cover.items(), [64, 0].as_slice());
-    let (records, cover) = log.select(SiteId::of(1), &table(alloc, 70, 6)?)?;
-    assert_eq!(rt; records.items().len(), 64);
-    let first = records.items().first().ok_or("a record")?;
-    assert_eq!(rt; first.own_time(), Time::of(7));
-    assert_eq!(rt; cover.items(), [70, 0].as_slice());
+    let mut log = log_of(alloc, 0, &from_to(alloc, 1, 70)?)?;
+    let seen = [
+        sends(alloc, &mut log, 70, 0)?,
+        sends(alloc, &mut log, 70, 6)?,
+    ];
+    let wanted = [
+        kept(alloc, 70, &from_to(alloc, 1, 64)?, 64)?,
+        kept(alloc, 64, &from_to(alloc, 7, 70)?, 70)?,
+    ];
+    assert_eq!(rt; seen, wanted);
     Ok(())
 }
 
@@ -86,14 +119,16 @@ fn a_message_is_cut_before_the_first_that_is_left_off(rt: HostRuntime) -> Result
 fn times_that_fall_are_told_and_dropped_each(rt: HostRuntime) -> Result<(), Fail> {
     let alloc = rt.alloc();
     let mut log = log_of(alloc, 0, &[9, 5, 7])?;
-    log.drop_known(&table(alloc, 9, 6)?);
-    assert_eq!(rt; log.retained(), 2);
-    let (records, cover) = log.select(SiteId::of(1), &table(alloc, 9, 8)?)?;
-    assert_eq!(rt; records.items().len(), 1);
-    assert_eq!(rt; cover.items(), [9, 0].as_slice());
-    log.drop_known(&table(alloc, 9, 8)?);
-    assert_eq!(rt; log.retained(), 1);
-    log.drop_known(&table(alloc, 9, 9)?);
-    assert_eq!(rt; log.retained(), 0);
+    let seen = [
+        sends(alloc, &mut log, 9, 6)?,
+        sends(alloc, &mut log, 9, 8)?,
+        sends(alloc, &mut log, 9, 9)?,
+    ];
+    let wanted = [
+        kept(alloc, 2, &[9, 7], 9)?,
+        kept(alloc, 1, &[9], 9)?,
+        kept(alloc, 0, &[], 9)?,
+    ];
+    assert_eq!(rt; seen, wanted);
     Ok(())
 }

@@ -45,33 +45,57 @@ fn add(pools: &mut Pools, p: Prepare) -> Result<(), AllocError> {
     Ok(())
 }
 
-#[test]
-fn what_is_held_is_found_until_it_is_removed(rt: HostRuntime) -> Result<(), Fail> {
-    let alloc = rt.alloc();
+fn id(time: u64) -> TxnId {
+    TxnId {
+        site: SiteId::of(0),
+        time: Time::of(time),
+    }
+}
+
+/// What some pools tell of an asked transaction before and after one of theirs is removed.
+#[derive(Debug, Drop, PartialEq)]
+struct Told {
+    own: Vec<TxnId>,
+    first: Option<TxnId>,
+    conflicts: Vec<TxnId>,
+    removed: bool,
+    open: u64,
+    touching: usize,
+}
+
+fn tell(alloc: Global, removed: TxnId) -> Result<Told, Fail> {
+    let own = SiteId::of(0);
     let mut pools = Pools::new(alloc)?;
     add(&mut pools, transaction(alloc, 0, 9, "a", "b")?)?;
     add(&mut pools, transaction(alloc, 1, 7, "c", "d")?)?;
     add(&mut pools, transaction(alloc, 0, 5, "d", "e")?)?;
-    let own = SiteId::of(0);
-    let (first, last) = (
-        TxnId {
-            site: own,
-            time: Time::of(9),
-        },
-        TxnId {
-            site: own,
-            time: Time::of(5),
-        },
-    );
-    assert_eq!(rt; pools.own_ids(own)?.items(), [first, last].as_slice());
     let asked = transaction(alloc, 0, 11, "b", "d")?;
-    assert_eq!(rt; pools.first_conflict(&asked), Some(first));
-    assert_eq!(rt;
-        pools.own_conflicts(own, &asked)?.items(),
-        [first, last].as_slice()
-    );
-    assert!(rt; pools.remove(first).is_some() && !pools.holds(first));
-    assert_eq!(rt; pools.own_open(own), 1);
-    assert_eq!(rt; pools.touching(&key(alloc, "d")?).len(), 2);
+    let ids = pools.own_ids(own)?.items().to_vec(alloc)?;
+    let first = pools.first_conflict(&asked);
+    let conflicts = pools.own_conflicts(own, &asked)?.items().to_vec(alloc)?;
+    let was_held = pools.remove(removed).is_some();
+    Ok(Told {
+        own: ids,
+        first,
+        conflicts,
+        removed: was_held && !pools.holds(removed),
+        open: pools.own_open(own),
+        touching: pools.touching(&key(alloc, "d")?).len(),
+    })
+}
+
+#[test]
+fn what_is_held_is_found_until_it_is_removed(rt: HostRuntime) -> Result<(), Fail> {
+    let alloc = rt.alloc();
+    let (first, last) = (id(9), id(5));
+    let wanted = Told {
+        own: vec![in alloc; first, last]?,
+        first: Some(first),
+        conflicts: vec![in alloc; first, last]?,
+        removed: true,
+        open: 1,
+        touching: 2,
+    };
+    assert_eq!(rt; tell(alloc, first)?, wanted);
     Ok(())
 }
