@@ -1,0 +1,5 @@
+pub mod Digits
+pub mod Texts
+pub mod Lines
+pub mod Going
+pub mod Fitting
