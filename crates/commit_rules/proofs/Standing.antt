@@ -9,7 +9,7 @@ use Rattle.helios_model.specs.declared.entries.Reply.{Reply}
 use Rattle.helios_model.specs.declared.records.Record.{Record}
 use Rattle.helios_model.specs.declared.records.CommitEvent.{CommitEvent}
 use Rattle.helios_model.specs.Plans.{PlanData, count_of}
-use Rattle.helios_model.specs.Node.{Node, empty_node}
+use Rattle.helios_model.specs.Node.{Node, Stepped, empty_node}
 use Rattle.helios_model.specs.Step.{MayBeAsked, step}
 use Rattle.helios_model.specs.Spellable.{IsSpellableReply}
 use Rattle.helios_model.specs.World.{own_commits}
@@ -18,7 +18,7 @@ use Rattle.node_limits.specs.Laws.{ReplyIsSpellable, StepKeepsLimits}
 use Rattle.node_limits.specs.Limits.{IsWithinLimits}
 use Rattle.site_ledger.specs.Ledger.{AreEnds, Base, IsKept, empty_base, log_in}
 use Rattle.site_node.specs.Node.{IsNodeOf, IsSamePlace, SiteData, node_in}
-use Rattle.commit_rules.specs.Answers.{Answers, AnswersAt}
+use Rattle.commit_rules.specs.Answers.{Answers, AnswersAt, Moves}
 use Rattle.commit_rules.specs.Core.{CoreState, HasNode, IsCoreOf, core_of}
 
 -- a test that was applied once changes nothing when it is applied again
@@ -115,29 +115,27 @@ module _ (b : Base) (s after : SiteData) (added : List Record) (commits : List C
       subst (IsCoreOf (core_of after log_length) plan) reached (subst (λ p. IsCoreOf (core_of after log_length) p (node_in b s)) same at_end)
 
 -- what a step of a core gives, by its parts
-pub record IsStepped (plan : PlanData) (n : Node) (entry : Entry) (after : CoreState) (told : Reply) (more : List Record) (events : List CommitEvent) : Type 0 where
+pub record IsStepped (plan : PlanData) (n : Node) (entry : Entry) (after : CoreState) (more : List Record) (events : List CommitEvent) : Type 0 where
   pub core : IsCoreOf after plan (step plan n entry).node
-  pub reply : told ≡ (step plan n entry).reply
   pub added : more ≡ drop (length n.log) (step plan n entry).node.log
   pub commits : events ≡ own_commits n.site (step plan n entry).node.log (length n.log)
 
 -- one step of the parts is a step of the core that stands for the node
-pub record IsStep (s answered after : SiteData) (entry : Entry) (reply : Reply) (added : List Record) (commits : List CommitEvent) : Type 0 where
-  pub answers : Answers s answered reply (λ m. step s.plan m entry)
+pub record IsStep (s answered after : SiteData) (entry : Entry) (added : List Record) (commits : List CommitEvent) : Type 0 where
+  pub moves : Moves s answered (λ m. step s.plan m entry)
   pub place : IsSamePlace s answered
   pub end : IsEnd answered after added commits
 
-pub stepped : (s answered after : SiteData) (log_length later : ℕ) (entry : Entry) (reply : Reply) (added : List Record) (commits : List CommitEvent) → s.ledger.added ≡ [] → s.ledger.commits ≡ []
-    → IsStep s answered after entry reply added commits → later ≡ min (log_length + length added) (2 ^ 64 - 1) → StepKeepsLimits → MayBeAsked s.plan s.ledger.site entry.input
-    → (plan : PlanData) (n : Node) → IsCoreOf (core_of s log_length) plan n → IsStepped plan n entry (core_of after later) reply added commits
-stepped s answered after log_length later entry reply added commits none nothing h long keeps may plan n is =
+pub stepped : (s answered after : SiteData) (log_length later : ℕ) (entry : Entry) (added : List Record) (commits : List CommitEvent) → s.ledger.added ≡ [] → s.ledger.commits ≡ []
+    → IsStep s answered after entry added commits → later ≡ min (log_length + length added) (2 ^ 64 - 1) → StepKeepsLimits → MayBeAsked s.plan s.ledger.site entry.input
+    → (plan : PlanData) (n : Node) → IsCoreOf (core_of s log_length) plan n → IsStepped plan n entry (core_of after later) added commits
+stepped s answered after log_length later entry added commits none nothing h long keeps may plan n is =
     let at : IsAt plan n s = parts_at s log_length plan n is none nothing in
     let b : Base = base_of n s in
-    let answer : AnswersAt b s answered reply (λ m. step s.plan m entry) = h.answers b at.stands at.within.node in
+    let answer : AnswersAt b s answered (step s.plan (node_in b s) entry).reply (λ m. step s.plan m entry) = h.moves b at.stands at.within.node in
     let same : answered.plan ≡ plan = h.place.plan ∙ at.of_plan in
-    let turned : step plan n entry ≡ record { reply = reply; node = node_in b answered } =
-    ap (λ m. step plan m entry) (sym at.node) ∙ ap (λ p. step p (node_in b s) entry) (sym at.of_plan) ∙ answer.answer in
-    let reached : node_in b answered ≡ (step plan n entry).node = ap (λ t. t.node) (sym turned) in
+    let reached : node_in b answered ≡ (step plan n entry).node =
+    sym (ap (λ m. (step plan m entry).node) (sym at.node) ∙ ap (λ p. (step p (node_in b s) entry).node) (sym at.of_plan) ∙ ap (λ t. t.node) answer.answer) in
     let asked : MayBeAsked plan n.site entry.input = subst (λ site. MayBeAsked plan site entry.input) is.at_site (subst (λ p. MayBeAsked p s.ledger.site entry.input) at.of_plan may) in
     let grown : (step plan n entry).node.log ≡ n.log ++ added = ap (λ m. m.log) (sym reached) ∙ ap (λ more. n.log ++ more) (sym h.end.added_is) in
     let lengths : length (n.log ++ added) ≡ length n.log + length added = length-append n.log added in
@@ -145,7 +143,6 @@ stepped s answered after log_length later entry reply added commits none nothing
     let before : log_length ≡ min (length n.log) (2 ^ 64 - 1) = is.of_length in
     record {
       core = core_after b answered after added commits h.end answer.stands later plan (step plan n entry).node (omega arith) same reached (keeps plan n entry is.within asked);
-      reply = ap (λ t. t.reply) (sym turned);
       added = sym (ap (drop (length n.log)) grown ∙ drop-append_seam n.log added);
       commits =
           h.end.commits_are
@@ -171,18 +168,32 @@ core_first s plan site of_plan at_site none is stands within =
     }
 
 -- some node is there after a step, and the reply has a spelling
-pub core_still : (s answered after : SiteData) (log_length later : ℕ) (entry : Entry) (reply : Reply) (added : List Record) (commits : List CommitEvent) → s.ledger.added ≡ [] → s.ledger.commits ≡ []
-    → IsStep s answered after entry reply added commits → later ≡ min (log_length + length added) (2 ^ 64 - 1) → StepKeepsLimits → MayBeAsked s.plan s.ledger.site entry.input
+pub core_still : (s answered after : SiteData) (log_length later : ℕ) (entry : Entry) (added : List Record) (commits : List CommitEvent) → s.ledger.added ≡ [] → s.ledger.commits ≡ []
+    → IsStep s answered after entry added commits → later ≡ min (log_length + length added) (2 ^ 64 - 1) → StepKeepsLimits → MayBeAsked s.plan s.ledger.site entry.input
     → HasNode (core_of s log_length) → HasNode (core_of after later)
-core_still s answered after log_length later entry reply added commits none nothing h long keeps may has = record {
+core_still s answered after log_length later entry added commits none nothing h long keeps may has = record {
   node = (step s.plan has.node entry).node;
   is = subst (λ p. IsCoreOf (core_of after later) p (step s.plan has.node entry).node) (sym (h.end.place.plan ∙ h.place.plan))
-      (stepped s answered after log_length later entry reply added commits none nothing h long keeps may s.plan has.node has.is).core;
+      (stepped s answered after log_length later entry added commits none nothing h long keeps may s.plan has.node has.is).core;
 }
 
-pub reply_still : (s answered after : SiteData) (log_length later : ℕ) (entry : Entry) (reply : Reply) (added : List Record) (commits : List CommitEvent) → s.ledger.added ≡ [] → s.ledger.commits ≡ []
-    → IsStep s answered after entry reply added commits → later ≡ min (log_length + length added) (2 ^ 64 - 1) → StepKeepsLimits → ReplyIsSpellable → MayBeAsked s.plan s.ledger.site entry.input
-    → HasNode (core_of s log_length) → IsSpellableReply reply
-reply_still s answered after log_length later entry reply added commits none nothing h long keeps spelled may has =
-    let st = stepped s answered after log_length later entry reply added commits none nothing h long keeps may s.plan has.node has.is in
-    subst IsSpellableReply (sym st.reply) (spelled s.plan has.node entry has.is.within (subst (λ site. MayBeAsked s.plan site entry.input) has.is.at_site may))
+-- the reply to an entry is that of the rules to the node that the core stands for
+pub replied : (s answered : SiteData) (log_length : ℕ) (entry : Entry) (reply : Reply) → s.ledger.added ≡ [] → s.ledger.commits ≡ []
+    → Answers s answered reply (λ m. step s.plan m entry) → (plan : PlanData) (n : Node) → IsCoreOf (core_of s log_length) plan n → reply ≡ (step plan n entry).reply
+replied s answered log_length entry reply none nothing h plan n is =
+    let at : IsAt plan n s = parts_at s log_length plan n is none nothing in
+    let b : Base = base_of n s in
+    let answer : AnswersAt b s answered reply (λ m. step s.plan m entry) = h b at.stands at.within.node in
+    sym (ap (λ m. (step plan m entry).reply) (sym at.node) ∙ ap (λ p. (step p (node_in b s) entry).reply) (sym at.of_plan) ∙ ap (λ t. t.reply) answer.answer)
+
+pub reply_still : (s answered : SiteData) (log_length : ℕ) (entry : Entry) (reply : Reply) → s.ledger.added ≡ [] → s.ledger.commits ≡ []
+    → Answers s answered reply (λ m. step s.plan m entry) → ReplyIsSpellable → MayBeAsked s.plan s.ledger.site entry.input → HasNode (core_of s log_length) → IsSpellableReply reply
+reply_still s answered log_length entry reply none nothing h spelled may has =
+    subst IsSpellableReply (sym (replied s answered log_length entry reply none nothing h s.plan has.node has.is))
+    (spelled s.plan has.node entry has.is.within (subst (λ site. MayBeAsked s.plan site entry.input) has.is.at_site may))
+
+-- an answer moves the parts as its rule does
+pub moved : (s answered : SiteData) (reply : Reply) (rule : Node → Stepped) → Answers s answered reply rule → Moves s answered rule
+moved s answered reply rule h b is sound =
+    let at : AnswersAt b s answered reply rule = h b is sound in
+    subst (λ r. AnswersAt b s answered r rule) (sym (ap (λ t. t.reply) at.answer)) at

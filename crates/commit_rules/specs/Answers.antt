@@ -23,6 +23,10 @@ pub record AnswersAt (b : Base) (before after : SiteData) (reply : Reply) (rule 
 abbrev pub Answers : SiteData → SiteData → Reply → (Node → Stepped) → Type 0
 Answers before after reply rule = (b : Base) → IsNodeOf b before → IsSoundNode before.plan (node_in b before) → AnswersAt b before after reply rule
 
+-- the parts after stand for the node that this rule makes of the sound one before, whatever it replies
+abbrev pub Moves : SiteData → SiteData → (Node → Stepped) → Type 0
+Moves before after rule = (b : Base) → IsNodeOf b before → IsSoundNode before.plan (node_in b before) → AnswersAt b before after (rule (node_in b before)).reply rule
+
 -- a read whose version is not the one that a store has
 abbrev pub is_stale_in : List (List ℕ × Held) → ReadItem → Bool
 is_stale_in store read = not (same_version read.version (version_in store read.key))

@@ -6,7 +6,7 @@ ghost use Rattle.helios_model.specs.Node.{is_spent};
 ghost use Rattle.helios_model.specs.Step.{MayBeAsked, by_clock, get, step};
 ghost use Rattle.site_ledger.specs.Ledger.{Base};
 ghost use Rattle.site_node.specs.Node.{HasNodeWithin, HasSoundNode, IsNodeOf, IsSamePlace, node_in};
-ghost use Rattle.commit_rules.specs.Answers.{Answers};
+ghost use Rattle.commit_rules.specs.Answers.{Answers, Moves};
 
 use crate::requests::answer_request;
 use helios_model::{Ask, Bytes, Entry, Input, Key, Message, Reply, SiteId, Val};
@@ -94,4 +94,23 @@ pub(crate) fn answer(node: SiteNode, entry: Entry) -> Result<(SiteNode, Reply), 
         Input::Pull(to) => unless_spent_pull(node, reading, to),
         Input::Push(m) => unless_spent_push(node, reading, m),
     }
+}
+
+/// Takes the node one step, by the rules, whose answer nobody waits for: no message is made.
+pub(crate) fn redo(node: SiteNode, entry: Entry) -> Result<SiteNode, AllocError>
+    requires within { HasNodeWithin node }
+    requires may { MayBeAsked node.plan node.ledger.site entry.input }
+    ensures moves { IfOk result (λ after. Moves node after (λ n. step node.plan n entry)) }
+    ensures place { IfOk result (λ after. IsSamePlace node after) }
+{
+    let Input::Pull(_) = entry.input else {
+        let (after, _) = answer(node, entry)?;
+        return Ok(after);
+    };
+    if node.is_spent() {
+        return Ok(node);
+    }
+    let mut advanced = node;
+    advanced.advance(entry.reading);
+    Ok(advanced)
 }

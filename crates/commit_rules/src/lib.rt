@@ -5,4 +5,4 @@ mod answers;
 mod requests;
 mod rules;
 
-pub use rules::{Core, Outcome, Summary};
+pub use rules::{Core, Outcome, Redone, Summary};

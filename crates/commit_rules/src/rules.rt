@@ -6,7 +6,7 @@ ghost use Rattle.helios_model.specs.Node.{Node, empty_node, status};
 ghost use Rattle.helios_model.specs.Spellable.{IsSpellableReply, IsSpellableVersion};
 ghost use Rattle.helios_model.specs.Step.{MayBeAsked};
 
-use crate::answers::answer;
+use crate::answers::{answer, redo};
 use helios_model::{
     Commits, Entry, Key, MOST_SITES, Plan, Records, Reply, SiteId, State, Time, TxnId, Version,
 };
@@ -46,6 +46,14 @@ pub struct Outcome {
     pub commits: Commits,
 }
 
+/// What a step gives whose answer nobody waits for: the core after it, and the own Commits among what was appended to the log,
+/// in log order.
+#[derive(Drop)]
+pub struct Redone {
+    pub core: Core,
+    pub commits: Commits,
+}
+
 /// Where a node has come to: its own time in half microseconds, the length of its log, and how many own transactions
 /// are unfinished.
 #[derive(Clone, Copy, Debug, PartialEq, Eq)]
@@ -57,7 +65,7 @@ pub struct Summary {
 
 impl Core {
     ghost use Rattle.commit_rules.specs.Core.{IsCoreOf};
-    ghost use Rattle.commit_rules.specs.Outcome.{IsOutcome, IsSummaryOf};
+    ghost use Rattle.commit_rules.specs.Outcome.{IsOutcome, IsRedone, IsSummaryOf};
 
     /// The core of a site that has heard and done nothing.
     pub fn new(alloc: Global, plan: Plan, site: SiteId) -> Result<Core, AllocError>
@@ -99,6 +107,26 @@ impl Core {
             commits,
         };
         Ok(outcome)
+    }
+
+    /// Takes an input that was answered before, as `step` does, and spares the answer. Want of memory consumes the core.
+    pub fn redo(self, entry: Entry) -> Result<Redone, AllocError>
+        requires { MayBeAsked self.plan self.site entry.input }
+        ensures redone { IfOk result (λ out. (plan : PlanData) (n : Node) → IsCoreOf self plan n → IsRedone plan n entry out) }
+        ensures plan { IfOk result (λ out. out.core.plan ≡ self.plan) }
+        ensures site { IfOk result (λ out. out.core.site ≡ self.site) }
+    {
+        a_step_keeps_limits();
+        let moved = redo(self.node, entry)?;
+        let (node, added, commits) = moved.finish();
+        let gained = added.items().len() as u64;
+        let later = self.log_length.saturating_add(gained);
+        let core = Core {
+            node,
+            log_length: later,
+        };
+        let redone = Redone { core, commits };
+        Ok(redone)
     }
 
     /// What is known of a transaction at its own site; Unknown where the id is not of a transaction of this one.

@@ -18,7 +18,7 @@ use std::alloc::AllocError;
 
 impl SiteNode {
     /// Brings the clock at least to a reading, in half microseconds.
-    fn advance(&mut self, reading: u64)
+    pub fn advance(&mut self, reading: u64)
         ensures node { Becomes self.old self.new (λ n. advanced self.old.plan n reading) }
         ensures place { IsSamePlace self.old self.new }
         ensures ledger { self.new.ledger ≡ self.old.ledger }
