@@ -10,7 +10,7 @@ use Rattle.helios_model.specs.Plans.{PlanData}
 use Rattle.helios_model.specs.Node.{Node}
 use Rattle.helios_model.specs.Step.{MayBeAsked, after_entries, after_entry, step}
 use Rattle.helios_model.specs.World.{own_commits}
-use Rattle.node_host.specs.Answering.{HasAnswered, answers}
+use Rattle.node_host.specs.Answering.{HasAnswered, HasRedone, answers}
 use Rattle.node_host.specs.Journals.{AreAsked}
 use Rattle.node_host.proofs.Grows.{commits_both, entries_go}
 
@@ -74,3 +74,22 @@ answered_all plan n before yielded entries core given commits all h =
 pub answered_as : (plan : PlanData) (n : Node) (es : List Entry) (core : CoreState) (given given' : List Reply) (commits commits' : List CommitEvent)
     → HasAnswered plan n es core given commits → given' ≡ given → commits' ≡ commits → HasAnswered plan n es core given' commits'
 answered_as plan n es core given given' commits commits' h same same' = record { stands = h.stands; replied = same ∙ h.replied; committed = same' ∙ h.committed }
+
+-- ---- the same without the replies
+
+pub redone : (plan : PlanData) (n : Node) (es : List Entry) (core : CoreState) (given : List Reply) (commits : List CommitEvent)
+    → HasAnswered plan n es core given commits → HasRedone plan n es core commits
+redone plan n es core given commits h = record { stands = h.stands; replied = refl; committed = h.committed }
+
+pub redone_on : (plan : PlanData) (n : Node) (before yielded : List Entry) (e : Entry) (core : CoreState) (commits : List CommitEvent)
+    → HasRedone plan n ((before ++ yielded) ++ e ∷ []) core commits → HasRedone plan n (before ++ (yielded ++ e ∷ [])) core commits
+redone_on plan n before yielded e core commits h = subst (λ (es : List Entry). HasRedone plan n es core commits) (append_assoc before yielded (e ∷ [])) h
+
+pub redone_start : (plan : PlanData) (n : Node) (before : List Entry) (core : CoreState) (commits : List CommitEvent)
+    → HasRedone plan n before core commits → HasRedone plan n (before ++ []) core commits
+redone_start plan n before core commits h = subst (λ (es : List Entry). HasRedone plan n es core commits) (sym (append-nil before)) h
+
+pub redone_all : (plan : PlanData) (n : Node) (before yielded entries : List Entry) (core : CoreState) (commits : List CommitEvent)
+    → map (λ x. x) yielded ≡ entries → HasRedone plan n (before ++ yielded) core commits → HasRedone plan n (before ++ entries) core commits
+redone_all plan n before yielded entries core commits all h =
+    subst (λ (es : List Entry). HasRedone plan n (before ++ es) core commits) (sym (map_itself yielded) ∙ all) h

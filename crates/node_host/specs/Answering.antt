@@ -18,3 +18,7 @@ pub record HasAnswered (plan : PlanData) (n : Node) (entries : List Entry) (core
   pub stands : IsCoreOf core plan (after_entries plan n entries)
   pub replied : given ≡ answers plan n entries
   pub committed : commits ≡ own_commits n.site (after_entries plan n entries).log (length n.log)
+
+-- the same where nobody waits for the replies
+abbrev pub HasRedone : PlanData → Node → List Entry → CoreState → List CommitEvent → Type 0
+HasRedone plan n entries core commits = HasAnswered plan n entries core (answers plan n entries) commits

@@ -13,6 +13,7 @@ mod laws;
 mod open;
 mod opening;
 mod recovery;
+mod redoing;
 
 pub use answering::Answered;
 pub use batch::frame_length;

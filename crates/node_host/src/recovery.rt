@@ -7,7 +7,7 @@ ghost use Rattle.node_host.specs.Journals.{IsBatchPayload};
 ghost use Rattle.node_host.specs.Opening.{IsForSite, RefusesBatch, TakesBatch};
 
 use crate::HostFault;
-use crate::answering::Answered;
+use crate::redoing::Redoing;
 use commit_rules::Core;
 use helios_model::{Bytes, Commits, Entries, Entry, Input, SiteId};
 use log_records::{DecodeFault, decode_batch, what_is_read_is_a_batch};
@@ -104,12 +104,11 @@ impl Recovery {
         ensures number { IfOk result (λ after. after.batches ≡ self.batches + 1) }
     {
         let entries = read_batch(alloc, count, site, at, payload)?;
-        let answered = Answered {
+        let redoing = Redoing {
             core: self.core,
-            replies: Vec::new(alloc),
             commits: Vec::new(alloc),
         };
-        let Answered { core, commits, .. } = answered.answer_all(entries.into_items())?;
+        let Redoing { core, commits } = redoing.redo_all(entries.into_items())?;
         Ok(Recovery {
             core,
             batches: self.batches + 1,

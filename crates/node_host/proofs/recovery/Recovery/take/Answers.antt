@@ -1,6 +1,6 @@
 use Rattle.std.proofs.Common.{[], List, refl, subst}
 use Rattle.helios_model.specs.declared.entries.Entry.{Entry}
-use Rattle.node_host.specs.Answering.{HasAnswered}
+use Rattle.node_host.specs.Answering.{HasRedone, answers}
 use Rattle.node_host.specs.Recovery.{recovered}
 use Rattle.node_host.proofs.Answers.{answered_as}
 use Rattle.node_host.proofs.Taking.{answered_none, recovers_more}
@@ -13,9 +13,9 @@ returns-clause-takes c = record {
   goes_on = λ batches from.
       let plan = c.args.self.core.plan in
       let n = (recovered plan c.args.site batches).node in
-      let start = answered_as plan n [] c.args.self.core [] c.new.result.items [] c.new-2.result.items (answered_none plan n c.args.self.core from.core) c.new.ensures.items c.new-2.ensures.items in
-      let done = c.in_ok-core.ensures.answered plan n [] start in
-      let whole = subst (λ (es : List Entry). HasAnswered plan n es c.in_ok-core.field-0.core c.in_ok-core.field-0.replies.items c.in_ok-core.field-0.commits.items) c.into_items.ensures done in
-      recovers_more plan c.args.site batches c.in_ok-entries.entries c.args.self _ c.in_ok-core.field-0.replies.items from
-      (answered_as plan n c.in_ok-entries.entries c.in_ok-core.field-0.core _ _ _ _ whole refl c.new-3.ensures) refl;
+      let start = answered_as plan n [] c.args.self.core [] [] [] c.new.result.items (answered_none plan n c.args.self.core from.core) refl c.new.ensures.items in
+      let done = c.in_ok-core.ensures.redone plan n [] start in
+      let whole = subst (λ (es : List Entry). HasRedone plan n es c.in_ok-core.field-0.core c.in_ok-core.field-0.commits.items) c.into_items.ensures done in
+      recovers_more plan c.args.site batches c.in_ok-entries.entries c.args.self _ (answers plan n c.in_ok-entries.entries) from
+      (answered_as plan n c.in_ok-entries.entries c.in_ok-core.field-0.core _ _ _ _ whole refl c.new-2.ensures) refl;
 }
