@@ -2,6 +2,7 @@ pub mod Appends
 pub mod Bytes
 pub mod Images
 pub mod Lists
+pub mod Readings
 pub mod Opens
 pub mod Founds
 pub mod GateLemmas

@@ -14,10 +14,10 @@ unfolding length_bytes length_from
 read_again size small = from_be_bytes-to_be_bytes_4 size (omega arith)
 
 -- a length and a payload, and what stands behind them
-abbrev behind : List ℕ → List ℕ → List ℕ
+abbrev pub behind : List ℕ → List ℕ → List ℕ
 behind payload rest = length_bytes (length payload) ++ (payload ++ rest)
 
-regroup : (payload : List ℕ) (payloads : List (List ℕ)) (rest : List ℕ) → frames (payload ∷ payloads) ++ rest ≡ 1 ∷ behind payload (frames payloads ++ rest)
+pub regroup : (payload : List ℕ) (payloads : List (List ℕ)) (rest : List ℕ) → frames (payload ∷ payloads) ++ rest ≡ 1 ∷ behind payload (frames payloads ++ rest)
 regroup payload payloads rest =
     append_assoc (1 ∷ length_bytes (length payload) ++ payload) (frames payloads) rest
     ∙ append_assoc (1 ∷ length_bytes (length payload)) payload (frames payloads ++ rest)
@@ -28,7 +28,7 @@ front_of payload rest = take_at (length_bytes (length payload)) (payload ++ rest
 rest_of : (payload rest : List ℕ) → drop 4 (behind payload rest) ≡ payload ++ rest
 rest_of payload rest = drop_at (length_bytes (length payload)) (payload ++ rest) 4 (length-length_bytes (length payload))
 
-same_first : (p q xs ys : List ℕ) → IsSmall p → IsSmall q → behind p xs ≡ behind q ys → (p ≡ q) × (xs ≡ ys)
+pub same_first : (p q xs ys : List ℕ) → IsSmall p → IsSmall q → behind p xs ≡ behind q ys → (p ≡ q) × (xs ≡ ys)
 same_first p q xs ys small_p small_q is =
     let fronts : length_bytes (length p) ≡ length_bytes (length q) = sym (front_of p xs) ∙ ap (take 4) is ∙ front_of q ys in
     let sizes : length p ≡ length q = sym (read_again (length p) small_p) ∙ ap length_from fronts ∙ read_again (length q) small_q in
@@ -37,7 +37,7 @@ same_first p q xs ys small_p small_q is =
       sym (drop_at p xs (length q) sizes) ∙ ap (drop (length q)) rests ∙ drop_at q ys (length q) refl,
     )
 
-tail_of : (x y : ℕ) (xs ys : List ℕ) → x ∷ xs ≡ y ∷ ys → xs ≡ ys
+pub tail_of : (x y : ℕ) (xs ys : List ℕ) → x ∷ xs ≡ y ∷ ys → xs ≡ ys
 tail_of x y xs ys is = cc
 
 -- two lists of frames, each with a gate behind it that is not open
@@ -52,7 +52,7 @@ same_lists (p ∷ ps) (q ∷ qs) r s small_p small_q is closed_r closed_s =
     let rest : ps ≡ qs = same_lists ps qs r s (All-tail IsSmall p ps small_p) (All-tail IsSmall q qs small_q) same.1 closed_r closed_s in
     ap (λ (l : List ℕ). l ∷ ps) same.0 ∙ ap (λ (l : List (List ℕ)). q ∷ l) rest
 
-split_at : (image : List ℕ) (gate : ℕ) (payloads : List (List ℕ)) → IsReadTo image gate payloads → image ≡ frames payloads ++ drop gate image
+pub split_at : (image : List ℕ) (gate : ℕ) (payloads : List (List ℕ)) → IsReadTo image gate payloads → image ≡ frames payloads ++ drop gate image
 split_at image gate payloads read = sym (take-append-drop gate image) ∙ ap (λ (l : List ℕ). l ++ drop gate image) read.passed
 
 gate_of : (image : List ℕ) (gate : ℕ) → get_or (drop gate image) 0 0 ≡ get_or image gate 0

@@ -33,6 +33,18 @@ OneFrame = (image : List ℕ) (gate : ℕ) (payload other : List ℕ) → HoldsF
 abbrev pub NoFrame : Type 0
 NoFrame = (image : List ℕ) (gate : ℕ) (payload : List ℕ) → LeadsNowhere image gate → HoldsFrame image gate payload → ⊥
 
+-- the frame at the gate of a reading comes next in these payloads
+pub record GoesOn (image : List ℕ) (gate : ℕ) (payloads others : List (List ℕ)) : Type 0 where
+  pub payload : List ℕ
+  pub rest : List (List ℕ)
+  pub frame : HoldsFrame image gate payload
+  pub goes_on : others ≡ payloads ++ payload ∷ rest
+
+-- two readings of an image came to the same gate by the same payloads, or the one goes on where the other stands
+abbrev pub OneReading : Type 0
+OneReading = (image : List ℕ) (gate other : ℕ) (payloads others : List (List ℕ)) → IsReadTo image gate payloads → IsReadTo image other others
+    → ((gate ≡ other) × (payloads ≡ others)) ⊎ GoesOn image gate payloads others ⊎ GoesOn image other others payloads
+
 -- the gate behind a list stands where the list's frames end
 abbrev pub OneGate : Type 0
 OneGate = (image : List ℕ) (gate : ℕ) (payloads : List (List ℕ)) → EndsAt image gate payloads → gate ≡ length (frames payloads)

@@ -1,5 +1,5 @@
 // Each law is carried by a function with an empty body, whose one clause states it.
-ghost use Rattle.node_journal.specs.Laws.{OneList, NoList, NextOfList, OneFrame, NoFrame, OneGate, Settled, StoppedAppend, StoppedDisk};
+ghost use Rattle.node_journal.specs.Laws.{OneList, NoList, NextOfList, OneFrame, NoFrame, OneReading, OneGate, Settled, StoppedAppend, StoppedDisk};
 
 /// An image stands for at most one list.
 pub fn one_list()
@@ -24,6 +24,11 @@ pub fn one_frame()
 /// A gate that leads nowhere has no frame behind it.
 pub fn no_frame()
     ensures { NoFrame }
+{}
+
+/// Two readings of an image are the same, or the one goes on where the other stands.
+pub fn one_reading()
+    ensures { OneReading }
 {}
 
 /// The gate behind a list stands where the list's frames end.
