@@ -21,7 +21,7 @@ one_of_them plan site (p ∷ before) behind payload [] are = absurd are
 one_of_them plan site (p ∷ before) behind payload (b ∷ batches) are = one_of_them plan site before behind payload batches are.1
 
 -- a payload within a journal is the head, or a batch
-not_none : (plan : PlanData) (site : ℕ) (before behind : List (List ℕ)) (payload : List ℕ) (batches : List (List Entry)) → IsJournal plan site (before ++ payload ∷ behind) batches
+pub not_none : (plan : PlanData) (site : ℕ) (before behind : List (List ℕ)) (payload : List ℕ) (batches : List (List Entry)) → IsJournal plan site (before ++ payload ∷ behind) batches
     → IsNone plan site before payload → ⊥
 not_none plan site [] behind payload batches is none = none (head_for plan site) (record { read = is.0; form = refl })
 not_none plan site (head ∷ before) behind payload batches is none =

@@ -13,5 +13,6 @@ pub mod Sealing
 pub mod Nodes
 pub mod Sizes
 pub mod Damages
+pub mod Endings
 pub mod Stopped
 pub mod Readying

@@ -16,9 +16,10 @@ use Rattle.helios_model.specs.Limits.{most_inputs}
 use Rattle.node_host.specs.declared.fault.HostFault.{HostFault}
 use Rattle.node_host.specs.declared.fault.HostFault.TheVariants.{DiskFailed, NoMemory}
 use Rattle.node_host.specs.declared.host.Batched.{Batched}
+use Rattle.node_host.specs.declared.host.Opened.{Opened}
 use Rattle.node_host.specs.Hosts.{HaveReadings, IsHostOn, payload_of}
 use Rattle.node_host.specs.Journals.{AreAsked, HoldsBatches, IsBatchPayload, IsHeadOf, IsJournal, KeepsBatches, journal_size}
-use Rattle.node_host.specs.Openings.{Opens}
+use Rattle.node_host.specs.Openings.{EndAlike, GivesHeld, IsDecided, Opens}
 use Rattle.node_host.specs.Recovery.{recovered, take_batch}
 use Rattle.node_host.specs.States.{HostState}
 
@@ -66,6 +67,12 @@ RecoveredIsNode = (plan : PlanData) (w : World) (site : ℕ) → (recovered plan
 abbrev pub OwnJournalOpens : Type 0
 OwnJournalOpens = (plan : PlanData) (site limit : ℕ) (bytes : List ℕ) (batches : List (List Entry)) (fault : HostFault) → 40 ≤ limit
     → HoldsBatches plan site batches bytes → Opens plan site limit bytes (Err fault) → (fault ≡ DiskFailed) ⊎ (fault ≡ NoMemory)
+
+-- what a disk reads as decides how an opening ends
+abbrev pub OneEnd : Type 0
+OneEnd = (plan : PlanData) (site limit : ℕ) (bytes : List ℕ) (result other : Result Opened HostFault) → Opens plan site limit bytes result
+    → Opens plan site limit bytes other → GivesHeld plan site bytes result → GivesHeld plan site bytes other → IsDecided result → IsDecided other
+    → EndAlike result other
 
 -- A disk in memory, whose script stopped one of the four calls of a batch, crashed: it holds the batches before, or these and the new one, by the
 -- number of the call and by what the crash keeps. The premises on the batch are its clauses `readings`, `failed` and `keeps`.

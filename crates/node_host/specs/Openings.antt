@@ -8,6 +8,7 @@ use Rattle.commit_offsets.specs.Fingerprint.{fingerprint_of}
 use Rattle.node_host.specs.declared.fault.HostFault.{HostFault}
 use Rattle.node_host.specs.declared.fault.HostFault.TheVariants.{DiskFailed, Damaged, JournalFull, WrongPlan, WrongSite, NoMemory}
 use Rattle.node_host.specs.declared.host.Opened.{Opened}
+use Rattle.node_host.specs.Hosts.{IsOpened}
 use Rattle.node_host.specs.Journals.{HoldsBatches}
 use Rattle.node_host.specs.Opening.{IsDamagedAt, IsHead}
 
@@ -37,3 +38,25 @@ IsRefusal JournalFull = ⊥
 IsRefusal (WrongPlan kept given) = Unit {0}
 IsRefusal (WrongSite kept given) = Unit {0}
 IsRefusal NoMemory = ⊥
+
+-- the bytes decide: no call failed, and memory was there
+abbrev pub IsDecided : Result Opened HostFault → Type 0
+IsDecided (Ok opened) = Unit {0}
+IsDecided (Err DiskFailed) = ⊥
+IsDecided (Err (Damaged at)) = Unit {0}
+IsDecided (Err JournalFull) = Unit {0}
+IsDecided (Err (WrongPlan kept given)) = Unit {0}
+IsDecided (Err (WrongSite kept given)) = Unit {0}
+IsDecided (Err NoMemory) = ⊥
+
+-- what is opened is what the batches make that the bytes hold
+abbrev pub GivesHeld : PlanData → ℕ → List ℕ → Result Opened HostFault → Type 0
+GivesHeld plan site bytes (Ok opened) = (batches : List (List Entry)) → HoldsBatches plan site batches bytes → IsOpened plan site batches opened
+GivesHeld plan site bytes (Err fault) = Unit {0}
+
+-- the same number of batches and the same own Commits of the last one, or the same fault
+abbrev pub EndAlike : Result Opened HostFault → Result Opened HostFault → Type 0
+EndAlike (Ok opened) (Ok other) = (opened.batches ≡ other.batches) × (opened.last ≡ other.last)
+EndAlike (Ok opened) (Err fault) = ⊥
+EndAlike (Err fault) (Ok opened) = ⊥
+EndAlike (Err fault) (Err other) = fault ≡ other

@@ -14,10 +14,10 @@ use std::alloc::AllocError;
 
 /// A core, and what it answered so far: its replies, and its own Commits.
 #[derive(Drop)]
-pub struct Answered {
-    pub core: Core,
-    pub replies: Vec<Reply>,
-    pub commits: Vec<CommitEvent>,
+pub(crate) struct Answered {
+    pub(crate) core: Core,
+    pub(crate) replies: Vec<Reply>,
+    pub(crate) commits: Vec<CommitEvent>,
 }
 
 impl Answered {
@@ -52,7 +52,7 @@ impl Answered {
     }
 
     /// Answers these entries in their order. Want of memory consumes the core.
-    pub fn answer_all(self, entries: Vec<Entry>) -> Result<Answered, AllocError>
+    pub(crate) fn answer_all(self, entries: Vec<Entry>) -> Result<Answered, AllocError>
         requires may { AreAsked self.core.plan self.core.site entries.items }
         ensures answered { IfOk result (λ after. (plan : PlanData) (n : Node) (before : List Entry)
             → HasAnswered plan n before self.core self.replies.items self.commits.items

@@ -19,7 +19,11 @@ use std::alloc::Global;
 
 /// Tests the payload that a journal begins with: a head of the plan with this fingerprint, and of this site of it. Damaged
 /// where it is no head, WrongPlan or WrongSite where it is another one's.
-pub fn test_head(fingerprint: [u8; 32], site: SiteId, payload: Bytes) -> Result<(), HostFault>
+pub(crate) fn test_head(
+    fingerprint: [u8; 32],
+    site: SiteId,
+    payload: Bytes,
+) -> Result<(), HostFault>
     ensures head { OnOk result (head_of payload ≡ Ok (record { version = 1; fingerprint = fingerprint; site = site })) }
     ensures none { IfErr result (RefusesHead fingerprint site payload) }
 {
@@ -47,7 +51,7 @@ pub fn test_head(fingerprint: [u8; 32], site: SiteId, payload: Bytes) -> Result<
 }
 
 /// Adds the head to a journal that holds nothing. After a fault the journal is to be opened again.
-pub fn make_head<D: Disk>(
+pub(crate) fn make_head<D: Disk>(
     alloc: Global,
     fingerprint: [u8; 32],
     site: SiteId,

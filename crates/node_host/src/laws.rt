@@ -1,8 +1,10 @@
 // Each law states what follows from the definitions alone.
-ghost use Rattle.node_host.specs.Laws.{BatchesArePushed, CommitsAreJoined, HeadKeeps, HostStandsAtItsEnd, JournaledSuffice, OneHolding, OwnJournalOpens, RecoveredGoesOn, RecoveredIsNode, StoppedBatch};
+ghost use Rattle.node_host.specs.Laws.{BatchesArePushed, CommitsAreJoined, HeadKeeps, HostStandsAtItsEnd, JournaledSuffice, OneEnd, OneHolding, OwnJournalOpens, RecoveredGoesOn, RecoveredIsNode, StoppedBatch};
 
 use log_records::{batches_are_read_again, no_batch_is_longer, what_is_read_is_a_batch};
-use node_journal::laws::{next_of_list, no_list, one_gate, one_list, stopped_disk};
+use node_journal::laws::{
+    next_of_list, no_frame, no_list, one_frame, one_gate, one_list, one_reading, stopped_disk,
+};
 
 /// An image holds at most one list of batches of a site.
 pub fn one_holding()
@@ -50,6 +52,18 @@ pub fn what_is_recovered_is_the_node()
 pub fn an_own_journal_is_opened()
     ensures { OwnJournalOpens }
 {
+    next_of_list();
+    no_list();
+}
+
+/// What a disk reads as decides how an opening of it ends: where no call fails and there is memory, two openings for one site of one plan
+/// within one limit give the same number of batches and the same own Commits of the last one, or the same fault.
+pub fn one_end()
+    ensures { OneEnd }
+{
+    one_reading();
+    one_frame();
+    no_frame();
     next_of_list();
     no_list();
 }

@@ -15,15 +15,11 @@ mod opening;
 mod recovery;
 mod redoing;
 
-pub use answering::Answered;
 pub use batch::frame_length;
 pub use fault::HostFault;
-pub use heading::{make_head, test_head};
 pub use host::{Batched, Host, Opened};
 pub use laws::{
     a_host_stands_at_its_end, a_stopped_batch, an_own_journal_is_opened, batches_are_pushed,
-    commits_are_joined, journaled_entries_suffice, one_holding, what_a_head_keeps,
+    commits_are_joined, journaled_entries_suffice, one_end, one_holding, what_a_head_keeps,
     what_is_recovered_goes_on, what_is_recovered_is_the_node,
 };
-pub use opening::recover;
-pub use recovery::Recovery;

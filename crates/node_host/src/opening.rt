@@ -16,7 +16,7 @@ use std::alloc::Global;
 
 /// Takes the batches from a gate on, up to the end of the journal, for a site of a plan of so many sites. It writes nothing.
 /// Damaged where a gate leads nowhere, or a payload is no batch of this site.
-pub fn recover<D: Disk>(
+pub(crate) fn recover<D: Disk>(
     alloc: Global,
     count: u8,
     site: SiteId,

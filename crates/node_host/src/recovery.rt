@@ -15,10 +15,10 @@ use std::alloc::Global;
 
 /// A core for the node after some batches, their number, and the own Commits of the last one.
 #[derive(Drop)]
-pub struct Recovery {
-    pub core: Core,
-    pub batches: u64,
-    pub last: Commits,
+pub(crate) struct Recovery {
+    pub(crate) core: Core,
+    pub(crate) batches: u64,
+    pub(crate) last: Commits,
 }
 
 /// Whether an input is for this site: a message to another one, or a message for this one.
@@ -71,7 +71,7 @@ fn read_batch(
 
 impl Recovery {
     /// This core, and no batch yet.
-    pub fn new(alloc: Global, core: Core) -> Recovery
+    pub(crate) fn new(alloc: Global, core: Core) -> Recovery
         ensures core { result.core ≡ core }
         ensures none { result.batches ≡ 0 }
         ensures last { result.last ≡ [] }
@@ -85,7 +85,7 @@ impl Recovery {
 
     /// Takes the batch that the payload spells whose gate is at this place, for a site of a plan of so many sites. Damaged
     /// where the payload is no batch of this site.
-    pub fn take(
+    pub(crate) fn take(
         self,
         alloc: Global,
         count: u8,
