@@ -26,7 +26,7 @@ use Rattle.schedule_replay.specs.Replay.{IsReport}
 use Rattle.schedule_replay.specs.Report.{commit_line, site_line, site_text}
 use Rattle.schedule_replay.specs.Walks.{IsSeat, IsWalkAt}
 use Rattle.schedule_replay.specs.WalkStates.{WalkState}
-use Rattle.schedule_replay.proofs.Runs.{core_of_seat}
+use Rattle.schedule_replay.proofs.Seated.{core_of_seat}
 
 -- a host tells of its site's node
 pub host_summary : RecoveredIsNode → (plan : PlanData) (p : Progress) (site : ℕ) (host : HostState) (m : MemState) → IsSeat plan p site (Some host) m → IsCoreOf host.core plan (node_of plan p.world site)

@@ -8,9 +8,14 @@ pub mod Asked
 pub mod Reach
 pub mod Tally
 pub mod Recovered
-pub mod SeatsPassed
 pub mod Takes
-pub mod Runs
+pub mod Seated
+pub mod NextBatch
+pub mod Between
+pub mod AnsweredBatch
+pub mod StoppedBatch
+pub mod BatchBegun
+pub mod StepBegun
 pub mod Ending
 pub mod Walking
 pub mod Starting

@@ -23,8 +23,8 @@ use Rattle.schedule_replay.specs.declared.refusal.ReplayRefusal.TheVariants.{NoM
 use Rattle.schedule_replay.specs.WalkStates.{WalkState}
 use Rattle.schedule_replay.proofs.Passes.{progress_push, refusal_names, unrefused_step}
 use Rattle.schedule_replay.proofs.Reach.{may_pass}
-use Rattle.schedule_replay.proofs.Runs.{held_holds, seat_held, volume_low}
-use Rattle.schedule_replay.proofs.SeatsPassed.{seat_elsewhere, seat_here}
+use Rattle.schedule_replay.proofs.Seated.{held_holds, seat_elsewhere, seat_held, seat_here}
+use Rattle.schedule_replay.proofs.NextBatch.{volume_low}
 use Rattle.schedule_replay.proofs.Tally as tally
 
 pub site_below : (plan : PlanData) (s : Step) → IsStep plan s → site_of s < count_of plan

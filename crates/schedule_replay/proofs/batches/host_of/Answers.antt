@@ -2,7 +2,7 @@ use Rattle.std.proofs.Common.{List}
 use Rattle.helios_model.specs.declared.entries.Entry.{Entry}
 use Rattle.schedule_replay.specs.Seats.{IsHolding}
 use Rattle.schedule_replay.specs.Standing.{IsHeld}
-use Rattle.schedule_replay.proofs.Runs.{held_holds, on_err}
+use Rattle.schedule_replay.proofs.Seated.{held_holds, on_err}
 use Rattle.schedule_replay.proofs.batches.host_of.Goals as goal
 
 pub returns-in_err-host-in-None-clause-kept : goal.returns-in_err-host-in-None-clause-kept

@@ -6,7 +6,10 @@ use Rattle.schedule_replay.specs.declared.output.Output.{Output}
 use Rattle.schedule_replay.specs.Progress.{pass, progress}
 use Rattle.schedule_replay.specs.Taking.{HasTold}
 use Rattle.schedule_replay.specs.Standing.{IsBatchAt, IsBetween, IsPlaced}
-use Rattle.schedule_replay.proofs.Runs.{batch_each, batch_few, batch_some, done_between, on_err, run_between, run_placed, run_room, run_spelled}
+use Rattle.schedule_replay.proofs.Seated.{on_err}
+use Rattle.schedule_replay.proofs.NextBatch.{batch_each, batch_few, batch_some}
+use Rattle.schedule_replay.proofs.Between.{run_between}
+use Rattle.schedule_replay.proofs.AnsweredBatch.{done_between, run_placed, run_room, run_spelled}
 use Rattle.schedule_replay.proofs.batches.run.Goals as goal
 
 pub run_batch-requires-clause-some : goal.run_batch-requires-clause-some

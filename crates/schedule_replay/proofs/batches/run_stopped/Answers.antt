@@ -5,7 +5,10 @@ use Rattle.schedule_text.specs.declared.steps.Step.TheVariants.{Batch}
 use Rattle.schedule_replay.specs.Progress.{pass, progress}
 use Rattle.schedule_replay.specs.Standing.{IsBatchAt, IsBetween, IsPlaced}
 use Rattle.schedule_replay.specs.Taking.{HasStopped}
-use Rattle.schedule_replay.proofs.Runs.{batch_each, batch_few, batch_journaled, on_err, run_between, stop_between, stop_placed}
+use Rattle.schedule_replay.proofs.Seated.{on_err}
+use Rattle.schedule_replay.proofs.NextBatch.{batch_each, batch_few, batch_journaled}
+use Rattle.schedule_replay.proofs.Between.{run_between}
+use Rattle.schedule_replay.proofs.StoppedBatch.{stop_between, stop_placed}
 use Rattle.schedule_replay.proofs.batches.run_stopped.Goals as goal
 
 pub stop_batch-requires-clause-few : goal.stop_batch-requires-clause-few

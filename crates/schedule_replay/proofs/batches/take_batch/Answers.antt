@@ -5,7 +5,9 @@ use Rattle.schedule_text.specs.declared.steps.Step.{Step}
 use Rattle.schedule_text.specs.declared.steps.Step.TheVariants.{Batch}
 use Rattle.schedule_replay.specs.Progress.{progress}
 use Rattle.schedule_replay.specs.Standing.{IsBatchAt, IsBegun, IsBetween}
-use Rattle.schedule_replay.proofs.Runs.{batch_at, batch_few, batch_takes, batch_written, begun_between, begun_holds, begun_placed, entries_here, on_err, seat_held, seated_holds}
+use Rattle.schedule_replay.proofs.Seated.{on_err, seat_held, seated_holds}
+use Rattle.schedule_replay.proofs.NextBatch.{batch_few}
+use Rattle.schedule_replay.proofs.BatchBegun.{batch_at, batch_takes, batch_written, begun_between, begun_holds, begun_placed, entries_here}
 use Rattle.schedule_replay.proofs.batches.take_batch.Goals as goal
 
 pub host_of-requires : goal.host_of-requires

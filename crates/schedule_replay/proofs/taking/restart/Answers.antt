@@ -4,7 +4,9 @@ use Rattle.schedule_text.specs.declared.steps.Step.{Step}
 use Rattle.schedule_text.specs.declared.steps.Step.TheVariants.{Restart}
 use Rattle.schedule_replay.specs.Progress.{progress}
 use Rattle.schedule_replay.specs.Standing.{IsBegun, IsBetween}
-use Rattle.schedule_replay.proofs.Runs.{begun_holds, held_holds, on_err, restart_first, restart_placed, seat_held, seated_holds}
+use Rattle.schedule_replay.proofs.Seated.{held_holds, on_err, seat_held, seated_holds}
+use Rattle.schedule_replay.proofs.BatchBegun.{begun_holds}
+use Rattle.schedule_replay.proofs.StepBegun.{restart_first, restart_placed}
 use Rattle.schedule_replay.proofs.taking.restart.Goals as goal
 
 pub restart_seat-requires : goal.restart_seat-requires

@@ -2,7 +2,7 @@ use Rattle.std.proofs.Common.{◌≡◌, ◌∙◌, ap, sym, subst, List}
 use Rattle.schedule_text.specs.declared.steps.Step.{Step}
 use Rattle.schedule_text.specs.declared.steps.Step.TheVariants.{Batch, Restart}
 use Rattle.schedule_replay.specs.Standing.{IsBegun}
-use Rattle.schedule_replay.proofs.Runs.{part_begun, part_between, part_placed}
+use Rattle.schedule_replay.proofs.StepBegun.{part_begun, part_between, part_placed}
 use Rattle.schedule_replay.proofs.taking.take_step.Goals as goal
 
 pub take_batch-requires : goal.take_batch-requires
