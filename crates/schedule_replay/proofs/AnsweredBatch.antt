@@ -22,7 +22,6 @@ use Rattle.helios_model.specs.World.Event.{Batch as Batched}
 use Rattle.protocol_laws.specs.Moves.{BatchMovesOneNode}
 use Rattle.protocol_laws.specs.Times.{EachRecordIsSpellable, EachReplyIsSpellable}
 use Rattle.protocol_laws.specs.Told.{EachSentIsMessage}
-use Rattle.schedule_text.specs.Steps as text
 use Rattle.schedule_text.specs.declared.planned.Planned.{Planned}
 use Rattle.schedule_text.specs.declared.steps.Step.{Step}
 use Rattle.schedule_text.specs.declared.steps.Step.TheVariants.{Batch}
@@ -87,27 +86,22 @@ pub volume_sums : (a x y z u v : ℕ) → u ≡ min a (2 ^ 64 - 1) → v ≡ min
 volume_sums a x y z u v f g h = omega arith
 
 pub run_placed : BatchMovesOneNode → RecoveredIsNode → (plan : PlanData) (steps : List Step) (number site : ℕ) (inputs : List Planned)
-    (host after : HostState) (entries : List Entry) (m m' : MemState) (output between output' : Output) (rs : List Reply) (commits : List CommitEvent)
+    (host after : HostState) (entries : List Entry) (m m' : MemState) (output output' : Output) (rs : List Reply) (commits : List CommitEvent)
     → IsBatchAt plan steps number site inputs None host entries m output
     → ((batches : List (List Entry)) → IsSeated host.core.plan host.core.site batches host m → IsSeated host.core.plan host.core.site (grown batches (journaled entries)) after m')
     → ((n : Node) → IsCoreOf host.core host.core.plan n → HasAnswered host.core.plan n entries after.core rs commits)
-    → HasTold number site output rs between
-    → output'.text.items ≡ between.text.items → output'.sent.items ≡ between.sent.items → output'.commits.items ≡ between.commits.items ++ commits
-    → output'.refusals ≡ between.refusals → output'.volume ≡ between.volume
-    → IsPlaced plan (pass plan (progress plan steps) (Batch site inputs None)) site after m' output'
-run_placed moves is_node plan steps number site inputs host after entries m m' output between output' rs commits h seated answered told text sent committed refusals written =
+    → HasTold number site output rs output'
+    → IsPlaced plan (progress plan steps) (Batch site inputs None) (record { host = after; commits = commits; are_new = true }) m' output'
+run_placed moves is_node plan steps number site inputs host after entries m m' output output' rs commits h seated answered told =
     record {
       seated = subst (λ bs. IsSeated plan site bs after m') (sym (journal_done plan w site inputs (journals_low plan steps site h.next.planned.here)))
           (subst (λ es. IsSeated plan site (grown (journal_of w site) (journaled es)) after m') h.asked (seated_here (journal_of w site) h.seated));
-      tells = record {
-        lines = text ∙ told.text ∙ ap (λ t. t ++ lines_told number site (length output.sent.items) rs) h.tells.lines ∙ ap (λ ls. p.lines ++ ls) lines;
-        sent = sent ∙ told.sent ∙ ap (λ ms. ms ++ messages_told rs) h.tells.sent ∙ ap (λ ms. w.sent ++ ms) messages;
-        commits =
-            committed ∙ ap (λ es. es ++ commits) (told.commits ∙ h.tells.commits)
-            ∙ ap (λ es. w.history ++ es) (here.committed ∙ commits_here moves plan w site es);
-        refusals = refusals ∙ told.refusals ∙ ap (λ k. k + count_by is_refusal rs) h.tells.refusals ∙ ap (λ k. refusals_in w.told + k) refused ∙ sym (refusals_push w.told ts);
-        volume = written ∙ volume_sums _ _ _ _ output.volume between.volume h.tells.volume told.volume sizes;
-      };
+      lines = told.text ∙ ap (λ t. t ++ lines_told number site (length output.sent.items) rs) h.tells.lines ∙ ap (λ ls. p.lines ++ ls) lines;
+      sent = told.sent ∙ ap (λ ms. ms ++ messages_told rs) h.tells.sent ∙ ap (λ ms. w.sent ++ ms) messages;
+      commits = told.commits ∙ h.tells.commits;
+      added = sym (ap (λ es. w.history ++ es) (here.committed ∙ commits_here moves plan w site es));
+      refusals = told.refusals ∙ ap (λ k. k + count_by is_refusal rs) h.tells.refusals ∙ ap (λ k. refusals_in w.told + k) refused ∙ sym (refusals_push w.told ts);
+      volume = volume_sums _ _ _ _ output.volume output'.volume h.tells.volume told.volume sizes;
     }
   where
     p : Progress

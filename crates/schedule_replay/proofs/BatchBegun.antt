@@ -10,16 +10,15 @@ use Rattle.helios_model.specs.declared.entries.Entry.{Entry}
 use Rattle.helios_model.specs.declared.messages.Message.{Message}
 use Rattle.helios_model.specs.Node.{Node}
 use Rattle.helios_model.specs.Plans.{PlanData, count_of}
-use Rattle.helios_model.specs.Step.{step}
 use Rattle.helios_model.specs.World.{journal_of, journaled, node_of}
 use Rattle.protocol_laws.specs.Told.{EachSentIsMessage}
-use Rattle.schedule_text.specs.Steps as text
 use Rattle.schedule_text.specs.declared.planned.Planned.{Planned}
 use Rattle.schedule_text.specs.declared.steps.Step.{Step}
 use Rattle.schedule_text.specs.declared.steps.Step.TheVariants.{Batch}
 use Rattle.schedule_replay.specs.declared.output.Output.{Output}
+use Rattle.schedule_replay.specs.declared.taken.Taken.{Taken}
 use Rattle.schedule_replay.specs.Entries.{entries_at, entries_for}
-use Rattle.schedule_replay.specs.Progress.{Progress, most_volume, pass, progress, site_of, volume}
+use Rattle.schedule_replay.specs.Progress.{Progress, most_volume, progress, site_of, volume}
 use Rattle.schedule_replay.specs.Seats.{IsHolding, IsSeated}
 use Rattle.schedule_replay.specs.Standing.{IsBatchAt, IsBegun, IsBetween, IsHeld, IsPlaced}
 use Rattle.schedule_replay.specs.Walks.{IsSeat}
@@ -105,20 +104,20 @@ batch_written host entries items same asked = subst (All MayBeWritten) (sym same
 
 -- what a run of the batch makes, of the step that began
 pub begun_placed : {E : Type 0} (plan : PlanData) (number site : ℕ) (inputs : List Planned) (stop stop' : Option Stop) (held : Option HostState) (host : HostState) (entries : List Entry)
-    (m m' m'' : MemState) (output between output' : Output) (r : Result HostState E) → stop ≡ stop'
+    (m m' m'' : MemState) (output between output' : Output) (r : Result Taken E) → stop ≡ stop'
     → ((steps : List Step) → IsBegun plan steps number (Batch site inputs stop) held m output → IsBatchAt plan steps number site inputs stop host entries m' between)
     → IfOk r (λ after. (steps : List Step) (is : List Planned) → IsBatchAt plan steps number site is stop' host entries m' between
-    → IsPlaced plan (pass plan (progress plan steps) (Batch site is stop')) site after m'' output')
+    → IsPlaced plan (progress plan steps) (Batch site is stop') after m'' output')
     → IfOk r (λ after. (steps : List Step) → IsBegun plan steps number (Batch site inputs stop) held m output
-    → IsPlaced plan (pass plan (progress plan steps) (Batch site inputs stop)) site after m'' output')
+    → IsPlaced plan (progress plan steps) (Batch site inputs stop) after m'' output')
 begun_placed plan number site inputs stop stop' held host entries m m' m'' output between output' r same begins h =
     IfOk-weaker r
-    (λ (after : HostState). (steps : List Step) (is : List Planned) → IsBatchAt plan steps number site is stop' host entries m' between
-    → IsPlaced plan (pass plan (progress plan steps) (Batch site is stop')) site after m'' output')
-    (λ (after : HostState). (steps : List Step) → IsBegun plan steps number (Batch site inputs stop) held m output
-    → IsPlaced plan (pass plan (progress plan steps) (Batch site inputs stop)) site after m'' output')
+    (λ (after : Taken). (steps : List Step) (is : List Planned) → IsBatchAt plan steps number site is stop' host entries m' between
+    → IsPlaced plan (progress plan steps) (Batch site is stop') after m'' output')
+    (λ (after : Taken). (steps : List Step) → IsBegun plan steps number (Batch site inputs stop) held m output
+    → IsPlaced plan (progress plan steps) (Batch site inputs stop) after m'' output')
     (λ after f steps b.
-    subst (λ st. IsPlaced plan (pass plan (progress plan steps) (Batch site inputs st)) site after m'' output') (sym same)
+    subst (λ st. IsPlaced plan (progress plan steps) (Batch site inputs st) after m'' output') (sym same)
     (f steps inputs (subst (λ st. IsBatchAt plan steps number site inputs st host entries m' between) same (begins steps b)))) h
 
 pub begun_between : {T E : Type 0} (plan : PlanData) (number site : ℕ) (inputs : List Planned) (stop stop' : Option Stop) (held : Option HostState) (host : HostState) (entries : List Entry)

@@ -1,5 +1,5 @@
 -- A disk between two steps: it holds its journal before the step, or with the step's batch.
-use Rattle.std.proofs.Common.{ℕ, sym, subst, ◌⊎◌, inl, inr, ◌-◌, ◌<◌, Option, List, length}
+use Rattle.std.proofs.Common.{ℕ, sym, subst, ◌⊎◌, inl, inr, ◌<◌, Option, List, length}
 use Rattle.disk_store.specs.Memory.{MemState}
 use Rattle.disk_store.specs.declared.fate.Stop.{Stop}
 use Rattle.node_host.specs.States.{HostState}

@@ -1,5 +1,5 @@
 -- The closing lines, and the report.
-use Rattle.std.proofs.Common.{◌≡◌, ◌∙◌, zero-add, ap, refl, sym, subst, ℕ, ◌+◌, ◌*◌, ◌-◌, ◌^◌, ◌<◌, ◌≤◌, min, ◌⊎◌, inl, inr, List, [], ◌∷◌, ◌++◌, append_assoc, length, map, replicate, slice_index, get_or, Option, Some, None, arith}
+use Rattle.std.proofs.Common.{◌≡◌, ◌∙◌, zero-add, ap, refl, sym, subst, ℕ, ◌+◌, ◌*◌, ◌-◌, ◌^◌, ◌<◌, ◌≤◌, min, ◌⊎◌, inl, inr, List, [], ◌∷◌, ◌++◌, append_assoc, length, map, replicate, slice_index, Some, None}
 use Rattle.std.specs.List.{flat_map, range_with_len}
 use Rattle.std.proofs.lemmas.Bool.{cases_lt}
 use Rattle.std.proofs.lemmas.List.{append-nil, get_or-replicate, get_or_past, length-replicate}
@@ -14,7 +14,6 @@ use Rattle.node_host.specs.Laws.{RecoveredIsNode}
 use Rattle.node_host.specs.States.{HostState}
 use Rattle.protocol_laws.specs.Moves.{BatchMovesOneNode}
 use Rattle.helios_model.specs.declared.entries.Entry.{Entry}
-use Rattle.helios_model.specs.declared.records.CommitEvent.{CommitEvent}
 use Rattle.helios_model.specs.Plans.{PlanData, count_of}
 use Rattle.helios_model.specs.Node.{Node, clock, empty_node}
 use Rattle.helios_model.specs.Step.{after_entries}

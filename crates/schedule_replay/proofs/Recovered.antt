@@ -1,7 +1,7 @@
 -- The commits of a batch, as its site's node makes them and as they are recovered with its journal.
 use Rattle.std.proofs.Common.{◌≡◌, ◌∙◌, ap, refl, ℕ, ◌≤◌, List, [], ◌∷◌, ◌++◌, length, arith}
 use Rattle.node_host.specs.Laws.{JournaledSuffice, RecoveredGoesOn, RecoveredIsNode}
-use Rattle.node_host.specs.Recovery.{recovered, take_batch}
+use Rattle.node_host.specs.Recovery.{recovered}
 use Rattle.helios_model.specs.declared.entries.Entry.{Entry}
 use Rattle.helios_model.specs.Node.{Node}
 use Rattle.helios_model.specs.Plans.{PlanData}

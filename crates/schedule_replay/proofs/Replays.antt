@@ -1,22 +1,21 @@
 -- The replay of a schedule: a walk through its steps, up to a refusal or its end.
-use Rattle.std.proofs.Common.{◌≡◌, ◌∙◌, ap, refl, sym, subst, ◌⊎◌, inl, inr, ℕ, ◌+◌, ◌<◌, ◌≤◌, All, Option, Some, None, Result, Ok, Err, IsErrAnd, List, [], ◌∷◌, ◌++◌, get_or, length, take, drop, slice_index_or, arith}
-use Rattle.std.proofs.lemmas.List.{drop_more, get_or_default, length-take-le, take-append-drop, take_all, take_more}
+use Rattle.std.proofs.Common.{◌≡◌, ◌∙◌, ap, refl, sym, subst, inl, inr, ℕ, ◌+◌, ◌<◌, ◌≤◌, Option, Some, None, Result, Ok, Err, IsErrAnd, List, [], ◌∷◌, ◌++◌, get_or, length, take, drop, arith}
+use Rattle.std.proofs.lemmas.List.{drop_more, get_or_default, length-take-le, take-append-drop, take_more}
 use Rattle.disk_store.specs.Memory.{MemState}
 use Rattle.helios_model.specs.Plans.{PlanData, IsAccepted}
 use Rattle.helios_model.specs.World.{StepsReach, World}
 use Rattle.protocol_laws.specs.Safe.{EachWorldIsSafe, IsSafe}
 use Rattle.schedule_text.specs.declared.steps.Step.{Step}
-use Rattle.schedule_text.specs.Steps.{IsStep}
 use Rattle.schedule_replay.specs.declared.refusal.ReplayRefusal.{ReplayRefusal}
 use Rattle.schedule_replay.specs.declared.refusal.ReplayRefusal.TheVariants.{ReplayFull, NoSuchMessage, NotForSite, NoMemory}
 use Rattle.schedule_replay.specs.declared.report.Report.{Report}
 use Rattle.schedule_replay.specs.Progress.{progress, reached}
 use Rattle.schedule_replay.specs.Refusals.{first_refusal, refusal_of}
-use Rattle.schedule_replay.specs.Replay.{IsCutShort, Replays, StandsAfter}
+use Rattle.schedule_replay.specs.Replay.{Replays, StandsAfter}
 use Rattle.schedule_replay.specs.Seats.{BenchBetween, BenchStands}
-use Rattle.schedule_replay.specs.Walks.{IsNamed, IsNamedRefusal, IsWalkAt, RefusesAs}
+use Rattle.schedule_replay.specs.Walks.{IsNamedRefusal, IsWalkAt, RefusesAs}
 use Rattle.schedule_replay.specs.WalkStates.{WalkState}
-use Rattle.schedule_replay.proofs.Passes.{Names, number_is, progress_nil, refusal_names, refusal_push, refused_front}
+use Rattle.schedule_replay.proofs.Passes.{number_is, refusal_names, refusal_push, refused_front}
 use Rattle.schedule_replay.proofs.Walking.{bench_stands}
 
 -- the steps up to a place and the one there

@@ -1,5 +1,5 @@
 -- What a seat holds, and what a step leaves of the seats of the sites.
-use Rattle.std.proofs.Common.{ℕ, ◌≡◌, ◌≢◌, ◌∙◌, refl, sym, subst, true, inr, ◌-◌, ◌<◌, Option, Some, None, Result, Ok, Err, OnOk, OnErr, List, length, slice_index_or}
+use Rattle.std.proofs.Common.{ℕ, ◌≡◌, ◌≢◌, ◌∙◌, refl, sym, subst, true, inr, ◌<◌, Option, Some, None, Result, Ok, Err, OnOk, OnErr, List, length, slice_index_or}
 use Rattle.disk_store.specs.Memory.{MemState}
 use Rattle.commit_rules.specs.Core.{IsCoreOf}
 use Rattle.node_host.specs.Journals.{IsJournal}
@@ -8,7 +8,6 @@ use Rattle.node_host.specs.Recovery.{recovered}
 use Rattle.node_host.specs.States.{HostState}
 use Rattle.helios_model.specs.declared.entries.Entry.{Entry}
 use Rattle.helios_model.specs.Plans.{PlanData}
-use Rattle.helios_model.specs.Step.{step}
 use Rattle.helios_model.specs.World.{World, happens, journal_of, node_of}
 use Rattle.schedule_text.specs.declared.steps.Step.{Step}
 use Rattle.schedule_text.specs.declared.steps.Step.TheVariants.{Batch, Restart}

@@ -1,15 +1,13 @@
 -- A walk that begins, over a bench that was made empty.
-use Rattle.std.proofs.Common.{◌≡◌, ◌∙◌, ap, refl, sym, subst, false, true, inl, zero, suc, ℕ, ◌*◌, ◌<◌, ◌≤◌, Bool, List, [], ◌∷◌, Option, Some, None, length, map, replicate, slice_index_or, arith}
+use Rattle.std.proofs.Common.{◌≡◌, ◌∙◌, ap, refl, sym, subst, false, true, inl, zero, suc, ℕ, ◌<◌, ◌≤◌, Bool, List, [], None, length, map, replicate, slice_index_or, arith}
 use Rattle.std.specs.List.{count_by}
 use Rattle.std.proofs.lemmas.List.{get_or-map, get_or-replicate, length-map, length-replicate}
-use Rattle.disk_store.specs.Disk.{at_rest}
 use Rattle.disk_store.specs.Memory.{MemState, cleared, empty_disk}
 use Rattle.helios_model.specs.declared.entries.Entry.{Entry}
 use Rattle.helios_model.specs.Limits.{most_sites}
 use Rattle.helios_model.specs.Plans.{PlanData, IsAccepted, count_of}
 use Rattle.helios_model.specs.World.{StepsReach, first_world, journal_of}
-use Rattle.node_host.specs.States.{HostState}
-use Rattle.schedule_replay.specs.Progress.{Progress, first_progress, progress, volume}
+use Rattle.schedule_replay.specs.Progress.{Progress, first_progress}
 use Rattle.schedule_replay.specs.Seats.{BenchStands, IsHolding}
 use Rattle.schedule_replay.specs.Walks.{IsSeat, IsWalkAt, IsWalkOf}
 use Rattle.schedule_replay.specs.WalkStates.{WalkState}

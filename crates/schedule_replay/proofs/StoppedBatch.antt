@@ -12,7 +12,6 @@ use Rattle.helios_model.specs.declared.records.CommitEvent.{CommitEvent}
 use Rattle.helios_model.specs.Plans.{PlanData}
 use Rattle.helios_model.specs.World.{World, Kept, Lost, grown, journal_of, journaled}
 use Rattle.protocol_laws.specs.Moves.{BatchMovesOneNode}
-use Rattle.schedule_text.specs.Steps as text
 use Rattle.schedule_text.specs.declared.planned.Planned.{Planned}
 use Rattle.schedule_text.specs.declared.steps.Step.{Step}
 use Rattle.schedule_text.specs.declared.steps.Step.TheVariants.{Batch}
@@ -22,7 +21,7 @@ use Rattle.schedule_replay.specs.Progress.{Progress, pass, progress, step_frame,
 use Rattle.schedule_replay.specs.Report.{batch_lines, refusals_in, step_line, step_lines}
 use Rattle.schedule_replay.specs.Seats.{IsSeated}
 use Rattle.schedule_replay.specs.Standing.{IsBatchAt, IsBetween, IsPlaced, head_size}
-use Rattle.schedule_replay.specs.Taking.{HasStopped, stop_line}
+use Rattle.schedule_replay.specs.Taking.{HasAdded, stop_line}
 use Rattle.schedule_replay.proofs.Journals.{commits_of, history_stopped, journal_stopped, sent_stopped, told_stopped}
 use Rattle.schedule_replay.proofs.Recovered.{last_added}
 use Rattle.schedule_replay.proofs.Tally as tally
@@ -62,23 +61,20 @@ pub stop_placed : BatchMovesOneNode → RecoveredGoesOn → RecoveredIsNode → 
     → IsSeated host.core.plan host.core.site (if is_kept stop.call stop.keep then grown batches (journaled entries) else batches) after m')
     → ((batches : List (List Entry)) → IsSeated host.core.plan host.core.site batches host m
     → last ≡ (recovered host.core.plan host.core.site (if is_kept stop.call stop.keep then grown batches (journaled entries) else batches)).last)
-    → HasStopped number site stop last output output'
-    → IsPlaced plan (pass plan (progress plan steps) (Batch site inputs (Some stop))) site after m' output'
+    → HasAdded output (stop_line number site stop) output'
+    → IsPlaced plan (progress plan steps) (Batch site inputs (Some stop)) (record { host = after; commits = last; are_new = is_kept stop.call stop.keep }) m' output'
 stop_placed moves goes_on is_node suffice plan steps number site inputs stop host after entries last m m' output output' h seated recovers told =
     record {
       seated = subst (λ bs. IsSeated plan site bs after m') (sym (journal_stopped plan w site inputs stop (journals_low plan steps site h.next.planned.here)))
           (stop_seat plan steps number site inputs stop host after entries m m' output h seated);
-      tells = record {
-        lines = told.text ∙ ap (λ t. t ++ stop_line number site stop) h.tells.lines ∙ ap (λ ls. p.lines ++ ls) lines;
-        sent = told.sent ∙ h.tells.sent ∙ sym (sent_stopped plan w site inputs stop);
-        commits =
-            told.commits ∙ ap (λ cs. cs ++ (if is_kept stop.call stop.keep then last else [])) h.tells.commits
-            ∙ stop_commits moves goes_on is_node suffice plan w site es w.history last (is_kept stop.call stop.keep)
-            (batch_journaled plan steps number site inputs stop es refl h.next) recovered_here
-            ∙ sym (history_stopped plan w site inputs stop);
-        refusals = told.refusals ∙ h.tells.refusals ∙ ap refusals_in (sym (told_stopped plan w site inputs stop));
-        volume = volume_sums _ _ 0 _ output.volume output'.volume h.tells.volume (told.volume ∙ ap (λ k. min k (2 ^ 64 - 1)) (plus_none _)) sizes;
-      };
+      lines = told.text ∙ ap (λ t. t ++ stop_line number site stop) h.tells.lines ∙ ap (λ ls. p.lines ++ ls) lines;
+      sent = told.sent ∙ h.tells.sent ∙ sym (sent_stopped plan w site inputs stop);
+      commits = told.commits ∙ h.tells.commits;
+      added = sym (
+          stop_commits moves goes_on is_node suffice plan w site es w.history last (is_kept stop.call stop.keep) (batch_journaled plan steps number site inputs stop es refl h.next) recovered_here
+          ∙ sym (history_stopped plan w site inputs stop));
+      refusals = told.refusals ∙ h.tells.refusals ∙ ap refusals_in (sym (told_stopped plan w site inputs stop));
+      volume = volume_sums _ _ 0 _ output.volume output'.volume h.tells.volume (told.volume ∙ ap (λ k. min k (2 ^ 64 - 1)) (plus_none _)) sizes;
     }
   where
     p : Progress

@@ -1,6 +1,5 @@
 -- What a batch that is not refused can take, and write.
-use Rattle.std.proofs.Common.{◌≡◌, ◌∙◌, refl, subst, suc, ℕ, Bool, true, false, All, Option, Some, None, IfSome, List, [], ◌∷◌, length, nat_eq, if◌then◌else◌, arith}
-use Rattle.std.specs.Option.{option_or}
+use Rattle.std.proofs.Common.{◌≡◌, refl, subst, suc, ℕ, Bool, true, false, All, Option, Some, None, IfSome, List, [], ◌∷◌, nat_eq, if◌then◌else◌, arith}
 use Rattle.std.specs.Prelude.{slice_get}
 use Rattle.std.proofs.lemmas.Bool.{eqb-true}
 use Rattle.std.proofs.lemmas.List.Elements.{All-cons, All-nil}

@@ -1,29 +1,31 @@
 -- A walk from one step to the next.
-use Rattle.std.proofs.Common.{◌≡◌, ◌∙◌, ap, refl, sym, subst, true, false, ◌⊎◌, inl, inr, ℕ, ◌+◌, ◌-◌, ◌^◌, ◌<◌, ◌≤◌, min, List, [], ◌∷◌, ◌++◌, Option, Some, None, Result, Ok, Err, IsErrAnd, length, map, replicate, set, get_or, slice_index_or, slice_set, arith}
-use Rattle.std.specs.List.{flat_map, range_with_len}
+use Rattle.std.proofs.Common.{◌≡◌, ◌∙◌, ap, refl, sym, subst, ◌⊎◌, inl, inr, ℕ, ◌+◌, ◌^◌, ◌<◌, ◌≤◌, List, [], ◌∷◌, ◌++◌, Option, Some, None, Result, Ok, Err, IsErrAnd, length, set, get_or, slice_index_or, if◌then◌else◌, arith}
 use Rattle.std.proofs.lemmas.Bool.{cases_eq}
-use Rattle.std.proofs.lemmas.List.{get_or_default, get_or-set_other, get_or-set_same, length-set, set-set}
+use Rattle.std.proofs.lemmas.List.{get_or-set_other, get_or-set_same, length-set}
 use Rattle.disk_store.specs.Memory.{MemState}
 use Rattle.node_host.specs.States.{HostState}
 use Rattle.helios_model.specs.Plans.{PlanData, IsAccepted, count_of}
-use Rattle.helios_model.specs.World.{StepsReach, World, journal_of}
+use Rattle.helios_model.specs.World.{StepsReach, Ending, Done, Kept, Lost, happens, journal_of}
+use Rattle.helios_model.specs.World.Event.{Batch as Batched}
 use Rattle.protocol_laws.specs.Times.{EachRecordIsSpellable}
 use Rattle.protocol_laws.specs.Told.{EachSentIsMessage}
 use Rattle.schedule_text.specs.Steps.{IsStep}
 use Rattle.schedule_text.specs.declared.steps.Step.{Step}
 use Rattle.schedule_text.specs.declared.steps.Step.TheVariants.{Batch, Restart}
 use Rattle.schedule_replay.specs.declared.output.Output.{Output}
-use Rattle.schedule_replay.specs.Progress.{Progress, most_volume, pass, progress, site_of, volume}
+use Rattle.schedule_replay.specs.declared.taken.Taken.{Taken}
+use Rattle.schedule_replay.specs.Entries.{ending_of, entries_at}
+use Rattle.schedule_replay.specs.Progress.{Progress, pass, progress, site_of}
 use Rattle.schedule_replay.specs.Refusals.{refusal_of}
-use Rattle.schedule_replay.specs.Seats.{BenchBetween, BenchStands, IsHolding, with_batch}
-use Rattle.schedule_replay.specs.Standing.{AreSeats, IsBetween, IsNext, IsPart, IsPlaced, Tells}
+use Rattle.schedule_replay.specs.Seats.{BenchBetween, BenchStands, IsHolding, IsSeated, with_batch}
+use Rattle.schedule_replay.specs.Standing.{IsBetween, IsPart, IsPlaced}
 use Rattle.schedule_replay.specs.Walks.{IsNamed, IsNamedRefusal, IsSeat, IsWalkAt, IsWalkOf, RefusesAs}
 use Rattle.schedule_replay.specs.declared.refusal.ReplayRefusal.{ReplayRefusal}
 use Rattle.schedule_replay.specs.declared.refusal.ReplayRefusal.TheVariants.{NoMemory}
 use Rattle.schedule_replay.specs.WalkStates.{WalkState}
 use Rattle.schedule_replay.proofs.Passes.{progress_push, refusal_names, unrefused_step}
 use Rattle.schedule_replay.proofs.Reach.{may_pass}
-use Rattle.schedule_replay.proofs.Seated.{held_holds, seat_elsewhere, seat_held, seat_here}
+use Rattle.schedule_replay.proofs.Seated.{held_holds, seat_elsewhere, seat_held, seat_here, seated_holds}
 use Rattle.schedule_replay.proofs.NextBatch.{volume_low}
 use Rattle.schedule_replay.proofs.Tally as tally
 
@@ -61,25 +63,33 @@ pub walk_room : (plan : PlanData) (steps : List Step) (s : Step) (walk : WalkSta
     → walk.number + 1 < 2 ^ 64
 walk_room plan steps s walk bench unrefused h = omega (arith, h.stands.counted, h.numbered, volume_low (progress plan steps) s unrefused, tally.lines_low (progress plan steps))
 
+-- the walk behind a step: what was told, and the commits that are new
+pub record Joined (after : WalkState) (output : Output) (taken : Taken) : Type 0 where
+  pub sent : after.sent ≡ output.sent.items
+  pub commits : after.commits ≡ output.commits.items ++ (if taken.are_new then taken.commits else [])
+  pub text : after.text ≡ output.text.items
+  pub refusals : after.refusals ≡ output.refusals
+  pub volume : after.volume ≡ output.volume
+
 -- one seat moved, and what was told: the walk stands for one step more
-pub walk_joined : EachRecordIsSpellable → EachSentIsMessage → (plan : PlanData) (steps : List Step) (s : Step) (walk after : WalkState) (bench bench' : List MemState) (host : HostState) (m : MemState) (output : Output)
+pub walk_joined : EachRecordIsSpellable → EachSentIsMessage → (plan : PlanData) (steps : List Step) (s : Step) (walk after : WalkState) (bench bench' : List MemState) (taken : Taken) (m : MemState) (output : Output)
     → IsAccepted plan → IsStep plan s → refusal_of (progress plan steps) s ≡ None → IsWalkAt plan steps walk bench
-    → IsPlaced plan (pass plan (progress plan steps) s) (site_of s) host m output → Parts after output
-    → after.plan ≡ walk.plan → after.hosts ≡ set walk.hosts (site_of s) (Some host) → after.number ≡ walk.number + 1
+    → IsPlaced plan (progress plan steps) s taken m output → Joined after output taken
+    → after.plan ≡ walk.plan → after.hosts ≡ set walk.hosts (site_of s) (Some taken.host) → after.number ≡ walk.number + 1
     → bench' ≡ set bench (site_of s) m → site_of s < length bench
     → IsWalkAt plan (steps ++ s ∷ []) after bench'
-walk_joined spellable messages plan steps s walk after bench bench' host m output accepted planned unrefused h placed parts same_plan hosts number benches inside = record {
+walk_joined spellable messages plan steps s walk after bench bench' taken m output accepted planned unrefused h placed joined same_plan hosts number benches inside = record {
   stands = subst (λ q. IsWalkOf plan q after bench') (sym next) (record {
     of_plan = same_plan ∙ h.stands.of_plan;
-    sites = ap length hosts ∙ length-set walk.hosts (site_of s) (Some host) ∙ h.stands.sites;
+    sites = ap length hosts ∙ length-set walk.hosts (site_of s) (Some taken.host) ∙ h.stands.sites;
     seats = λ site k d low. subst (λ hs. IsSeat plan (pass plan p s) site (slice_index_or hs site k) (slice_index_or bench' site d)) (sym hosts)
-        (subst (λ b. IsSeat plan (pass plan p s) site (slice_index_or (set walk.hosts (site_of s) (Some host)) site k) (slice_index_or b site d)) (sym benches) (by_site site k d low (cases_eq site (site_of s))));
-    released = sym parts.sent ∙ placed.tells.sent;
-    committed = sym parts.commits ∙ placed.tells.commits;
-    told = sym parts.refusals ∙ placed.tells.refusals;
-    lines = sym parts.text ∙ placed.tells.lines;
+        (subst (λ b. IsSeat plan (pass plan p s) site (slice_index_or (set walk.hosts (site_of s) (Some taken.host)) site k) (slice_index_or b site d)) (sym benches) (by_site site k d low (cases_eq site (site_of s))));
+    released = joined.sent ∙ placed.sent;
+    committed = joined.commits ∙ ap (λ es. es ++ (if taken.are_new then taken.commits else [])) placed.commits ∙ sym placed.added;
+    told = joined.refusals ∙ placed.refusals;
+    lines = joined.text ∙ placed.lines;
     counted = number ∙ ap (λ k. k + 1) h.stands.counted;
-    written = sym parts.volume ∙ placed.tells.volume;
+    written = joined.volume ∙ placed.volume;
   });
   reaches = subst (λ q. StepsReach plan q.world) (sym next) (may_pass spellable messages plan p s accepted h.reaches planned (unrefused_step p s unrefused));
   numbered = subst (λ q. q.number ≤ length q.lines) (sym next)
@@ -99,14 +109,14 @@ walk_joined spellable messages plan steps s walk after bench bench' host m outpu
     here = omega (arith, h.stands.sites, below)
 
     by_site : (site : ℕ) (k : Option HostState) (d : MemState) → site < count_of plan → (site ≡ site_of s) ⊎ (site ≡ site_of s → ⊥)
-        → IsSeat plan (pass plan p s) site (slice_index_or (set walk.hosts (site_of s) (Some host)) site k) (slice_index_or (set bench (site_of s) m) site d)
+        → IsSeat plan (pass plan p s) site (slice_index_or (set walk.hosts (site_of s) (Some taken.host)) site k) (slice_index_or (set bench (site_of s) m) site d)
     by_site site k d low (inl same) =
-        subst (λ st. IsSeat plan (pass plan p s) st (slice_index_or (set walk.hosts (site_of s) (Some host)) st k) (slice_index_or (set bench (site_of s) m) st d)) (sym same)
-        (subst (λ hh. IsSeat plan (pass plan p s) (site_of s) hh (slice_index_or (set bench (site_of s) m) (site_of s) d)) (sym (get_or-set_same walk.hosts (site_of s) (Some host) k here))
-        (subst (λ mm. IsSeat plan (pass plan p s) (site_of s) (Some host) mm) (sym (get_or-set_same bench (site_of s) m d inside))
-        (seat_here plan p s host m (omega (arith, (tally.counted plan steps).opened, below)) placed.seated)))
+        subst (λ st. IsSeat plan (pass plan p s) st (slice_index_or (set walk.hosts (site_of s) (Some taken.host)) st k) (slice_index_or (set bench (site_of s) m) st d)) (sym same)
+        (subst (λ hh. IsSeat plan (pass plan p s) (site_of s) hh (slice_index_or (set bench (site_of s) m) (site_of s) d)) (sym (get_or-set_same walk.hosts (site_of s) (Some taken.host) k here))
+        (subst (λ mm. IsSeat plan (pass plan p s) (site_of s) (Some taken.host) mm) (sym (get_or-set_same bench (site_of s) m d inside))
+        (seat_here plan p s taken.host m (omega (arith, (tally.counted plan steps).opened, below)) placed.seated)))
     by_site site k d low (inr apart) =
-        subst (λ hh. IsSeat plan (pass plan p s) site hh (slice_index_or (set bench (site_of s) m) site d)) (sym (get_or-set_other walk.hosts (site_of s) site (Some host) k apart))
+        subst (λ hh. IsSeat plan (pass plan p s) site hh (slice_index_or (set bench (site_of s) m) site d)) (sym (get_or-set_other walk.hosts (site_of s) site (Some taken.host) k apart))
         (subst (λ mm. IsSeat plan (pass plan p s) site (slice_index_or walk.hosts site k) mm) (sym (get_or-set_other bench (site_of s) site m d apart))
         (seat_elsewhere plan p s site (slice_index_or walk.hosts site k) (slice_index_or bench site d) apart (h.stands.seats site k d low)))
 
@@ -134,6 +144,19 @@ bench_between plan steps s walk bench bench' m h between benches inside = λ sit
         (subst (Between (site_of s)) (sym (get_or-set_same bench (site_of s) m d inside)) between)
     by_site site d low (inr apart) =
         subst (Between site) (sym (get_or-set_other bench (site_of s) site m d apart)) (inl (bench_stands plan steps walk bench h site d low))
+
+-- a disk of a step that was taken holds its journal without the step's batch or with it
+pub taken_between : (plan : PlanData) (steps : List Step) (s : Step) (taken : Taken) (m : MemState) (output : Output) → IsStep plan s → IsPlaced plan (progress plan steps) s taken m output → IsBetween plan (progress plan steps) s m
+taken_between plan steps (Restart site stop) taken m output planned placed = inl (seated_holds plan site (journal_of (progress plan steps).world site) taken.host m placed.seated)
+taken_between plan steps (Batch site inputs stop) taken m output planned placed = by_ending (ending_of stop) placed.seated
+  where
+    p : Progress
+    p = progress plan steps
+
+    by_ending : (ending : Ending) → IsSeated plan site (journal_of (happens plan p.world (Batched site (entries_at plan p.world site inputs) ending)) site) taken.host m → IsBetween plan p (Batch site inputs stop) m
+    by_ending Done seated = inr (seated_holds plan site _ taken.host m seated)
+    by_ending Kept seated = inr (seated_holds plan site _ taken.host m seated)
+    by_ending Lost seated = inl (seated_holds plan site (journal_of p.world site) taken.host m seated)
 
 pub held_at : (hosts : List (Option HostState)) (place site there : ℕ) (slot held : Option HostState) → place ≡ site → site ≡ there → slot ≡ get_or hosts place slot → held ≡ slot
     → held ≡ slice_index_or hosts there held

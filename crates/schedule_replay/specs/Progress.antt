@@ -1,5 +1,5 @@
 -- How far a replay has come: what its steps reach, told step by step.
-use Rattle.std.specs.Prelude.{Bool, true, false, ℕ, ◌+◌, ◌*◌, ◌^◌, List, [], ◌∷◌, ◌++◌, length, fold, replicate, slice_set}
+use Rattle.std.specs.Prelude.{Bool, true, false, ℕ, ◌+◌, ◌*◌, ◌^◌, List, [], ◌++◌, length, fold, replicate, slice_set}
 use Rattle.std.specs.List.{count_by, sum_by}
 use Rattle.helios_model.specs.declared.messages.Message.{Message}
 use Rattle.helios_model.specs.Plans.{PlanData, count_of}

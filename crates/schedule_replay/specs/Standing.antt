@@ -1,5 +1,5 @@
 -- What the parts of a walk stand for while a step is taken: its site's host and disk, and what was told.
-use Rattle.std.specs.Prelude.{◌≡◌, ◌⊎◌, ℕ, ◌+◌, ◌-◌, ◌^◌, ◌<◌, ◌≤◌, true, List, [], Option, Some, None, length, min, slice_index_or, if◌then◌else◌}
+use Rattle.std.specs.Prelude.{◌≡◌, ◌⊎◌, ℕ, ◌+◌, ◌-◌, ◌^◌, ◌<◌, ◌≤◌, true, List, [], ◌++◌, Option, Some, None, min, slice_index_or, if◌then◌else◌}
 use Rattle.helios_model.specs.declared.entries.Entry.{Entry}
 use Rattle.helios_model.specs.Plans.{PlanData, IsAccepted, count_of}
 use Rattle.helios_model.specs.World.{StepsReach, journal_of}
@@ -11,8 +11,9 @@ use Rattle.schedule_text.specs.declared.steps.Step.{Step}
 use Rattle.schedule_text.specs.declared.steps.Step.TheVariants.{Batch}
 use Rattle.schedule_text.specs.Steps.{IsStep}
 use Rattle.schedule_replay.specs.declared.output.Output.{Output}
+use Rattle.schedule_replay.specs.declared.taken.Taken.{Taken}
 use Rattle.schedule_replay.specs.Entries.{entries_at}
-use Rattle.schedule_replay.specs.Progress.{Progress, most_volume, progress, site_of, step_frame, volume}
+use Rattle.schedule_replay.specs.Progress.{Progress, most_volume, pass, progress, site_of, step_frame, volume}
 use Rattle.schedule_replay.specs.Refusals.{refusal_of}
 use Rattle.schedule_replay.specs.Report.{refusals_in}
 use Rattle.schedule_replay.specs.Seats.{IsHolding, IsSeated, with_batch}
@@ -73,10 +74,16 @@ pub record IsSomeBatch (plan : PlanData) (number site : ℕ) (stop : Option Stop
   pub inputs : List Planned
   pub is : IsBatchAt plan steps number site inputs stop host entries m output
 
--- the host of a site over its disk, and what was told, stand for how far the steps come
-pub record IsPlaced (plan : PlanData) (p : Progress) (site : ℕ) (host : HostState) (m : MemState) (output : Output) : Type 0 where
-  pub seated : IsSeated plan site (journal_of p.world site) host m
-  pub tells : Tells p (volume p) output
+-- a step behind this progress was taken at its site: the host stands for the journal, all but the commits was told, and those that are new
+-- are what the step adds to the history
+pub record IsPlaced (plan : PlanData) (p : Progress) (s : Step) (taken : Taken) (m : MemState) (output : Output) : Type 0 where
+  pub seated : IsSeated plan (site_of s) (journal_of (pass plan p s).world (site_of s)) taken.host m
+  pub lines : output.text.items ≡ (pass plan p s).lines
+  pub sent : output.sent.items ≡ (pass plan p s).world.sent
+  pub commits : output.commits.items ≡ p.world.history
+  pub added : (pass plan p s).world.history ≡ p.world.history ++ (if taken.are_new then taken.commits else [])
+  pub refusals : output.refusals ≡ refusals_in (pass plan p s).world.told
+  pub volume : output.volume ≡ min (volume (pass plan p s)) (2 ^ 64 - 1)
 
 -- the disk of a step's site holds its journal before the step, or with the step's batch
 abbrev pub IsBetween : PlanData → Progress → Step → MemState → Type 0

@@ -2,7 +2,6 @@
 use Rattle.std.specs.Prelude.{◌≡◌, ℕ, ◌+◌, ◌-◌, ◌^◌, List, [], ◌∷◌, ◌++◌, length, min, IfSome, slice_get, codes, if◌then◌else◌}
 use Rattle.std.specs.List.{count_by, filter_map, sum_by}
 use Rattle.helios_model.specs.declared.entries.Reply.{Reply}
-use Rattle.helios_model.specs.declared.records.CommitEvent.{CommitEvent}
 use Rattle.disk_store.specs.declared.fate.Stop.{Stop}
 use Rattle.node_journal.specs.Appending.{is_kept}
 use Rattle.helios_model.specs.declared.messages.Message.{Message}
@@ -51,11 +50,3 @@ pub record HasAdded (before : Output) (line : List ℕ) (after : Output) : Type 
   pub commits : after.commits.items ≡ before.commits.items
   pub refusals : after.refusals ≡ before.refusals
   pub volume : after.volume ≡ min (before.volume + length line) (2 ^ 64 - 1)
-
--- a line tells how a batch was stopped, and what was kept adds its commits
-pub record HasStopped (number site : ℕ) (stop : Stop) (last : List CommitEvent) (before after : Output) : Type 0 where
-  pub text : after.text.items ≡ before.text.items ++ stop_line number site stop
-  pub sent : after.sent.items ≡ before.sent.items
-  pub commits : after.commits.items ≡ before.commits.items ++ (if is_kept stop.call stop.keep then last else [])
-  pub refusals : after.refusals ≡ before.refusals
-  pub volume : after.volume ≡ min (before.volume + length (stop_line number site stop)) (2 ^ 64 - 1)

@@ -6,17 +6,17 @@ ghost use Rattle.node_journal.specs.Appending.{is_kept};
 ghost use Rattle.schedule_text.specs.declared.planned.Planned.{Planned};
 ghost use Rattle.schedule_text.specs.declared.steps.Step.{Step};
 ghost use Rattle.schedule_text.specs.declared.steps.Step.TheVariants.{Batch};
-ghost use Rattle.schedule_replay.specs.Progress.{pass, progress};
+ghost use Rattle.schedule_replay.specs.Progress.{progress};
 ghost use Rattle.schedule_replay.specs.Seats.{IsHolding, IsSeated};
-ghost use Rattle.schedule_replay.specs.Taking.{HasStopped};
 ghost use Rattle.schedule_replay.specs.Standing.{IsBatchAt, IsBegun, IsBetween, IsHeld, IsPlaced, IsSomeBatch, IsSomeHeld};
 
 use crate::entries::entries_for;
 use crate::host_laws::host_laws;
 use crate::output::Output;
 use crate::seats::{open_seat, run_batch, stop_batch};
+use crate::taken::Taken;
 use disk_store::{Keep, MemDisk, Stop};
-use helios_model::{Commits, Entries, Plan, SiteId};
+use helios_model::{Entries, Plan, SiteId};
 use node_host::{Batched, Host, Opened, frame_length};
 use protocol_laws::{
     batch_moves_one_node, each_record_is_spellable, each_reply_is_spellable, each_sent_is_message,
@@ -68,10 +68,10 @@ fn run(
     entries: Entries,
     disk: &mut MemDisk,
     output: &mut Output,
-) -> Result<Host, AllocError>
+) -> Result<Taken, AllocError>
     requires { IsSomeBatch plan.now number site None host entries disk.old output.old }
     ensures placed { IfOk result (λ after. (steps : List Step) (inputs : List Planned) → IsBatchAt plan.now steps number site inputs None host entries disk.old output.old
-        → IsPlaced plan.now (pass plan.now (progress plan.now steps) (Batch site inputs None)) site after disk.new output.new) }
+        → IsPlaced plan.now (progress plan.now steps) (Batch site inputs None) after disk.new output.new) }
     ensures between { OnErr result ((steps : List Step) (inputs : List Planned) → IsBatchAt plan.now steps number site inputs None host entries disk.old output.old
         → IsBetween plan.now (progress plan.now steps) (Batch site inputs None) disk.new) }
 {
@@ -86,27 +86,11 @@ fn run(
         commits,
     } = run_batch(alloc, host, entries, disk)?;
     output.tell_all(alloc, number, site, replies.into_items())?;
-    output.commits.append(&mut commits.into_items())?;
-    Ok(host)
-}
-
-/// Tells how a batch was stopped; one that was kept adds its commits.
-fn tell_stop(
-    alloc: Global,
-    number: u64,
-    site: SiteId,
-    stop: Stop,
-    last: Commits,
-    output: &mut Output,
-) -> Result<(), AllocError>
-    ensures { OnOk result (HasStopped number site stop last output.old output.new) }
-{
-    let is_kept = is_kept(stop);
-    output.tell_stopped(alloc, number, site, is_kept)?;
-    if is_kept {
-        output.commits.append(&mut last.into_items())?;
-    }
-    Ok(())
+    Ok(Taken {
+        host,
+        commits,
+        are_new: true,
+    })
 }
 
 /// Runs a batch whose seal stops, and tells whether the crash kept it.
@@ -120,10 +104,10 @@ fn run_stopped(
     stop: Stop,
     disk: &mut MemDisk,
     output: &mut Output,
-) -> Result<Host, AllocError>
+) -> Result<Taken, AllocError>
     requires { IsSomeBatch plan.now number site (Some stop) host entries disk.old output.old }
     ensures placed { IfOk result (λ after. (steps : List Step) (inputs : List Planned) → IsBatchAt plan.now steps number site inputs (Some stop) host entries disk.old output.old
-        → IsPlaced plan.now (pass plan.now (progress plan.now steps) (Batch site inputs (Some stop))) site after disk.new output.new) }
+        → IsPlaced plan.now (progress plan.now steps) (Batch site inputs (Some stop)) after disk.new output.new) }
     ensures between { OnErr result ((steps : List Step) (inputs : List Planned) → IsBatchAt plan.now steps number site inputs (Some stop) host entries disk.old output.old
         → IsBetween plan.now (progress plan.now steps) (Batch site inputs (Some stop)) disk.new) }
 {
@@ -132,8 +116,13 @@ fn run_stopped(
     each_record_is_spellable();
     each_sent_is_message();
     let Opened { host, last, .. } = stop_batch(alloc, plan, host, entries, stop, disk)?;
-    tell_stop(alloc, number, site, stop, last, output)?;
-    Ok(host)
+    let are_new = is_kept(stop);
+    output.tell_stopped(alloc, number, site, are_new)?;
+    Ok(Taken {
+        host,
+        commits: last,
+        are_new,
+    })
 }
 
 /// Runs a batch at its site.
@@ -147,10 +136,10 @@ pub(crate) fn take_batch(
     held: Option<Host>,
     disk: &mut MemDisk,
     output: &mut Output,
-) -> Result<Host, AllocError>
+) -> Result<Taken, AllocError>
     requires { (steps : List Step) × IsBegun plan.now steps number (Batch site inputs.now stop) held disk.old output.old }
     ensures placed { IfOk result (λ after. (steps : List Step) → IsBegun plan.now steps number (Batch site inputs.now stop) held disk.old output.old
-        → IsPlaced plan.now (pass plan.now (progress plan.now steps) (Batch site inputs.now stop)) site after disk.new output.new) }
+        → IsPlaced plan.now (progress plan.now steps) (Batch site inputs.now stop) after disk.new output.new) }
     ensures between { OnErr result ((steps : List Step) → IsBegun plan.now steps number (Batch site inputs.now stop) held disk.old output.old
         → IsBetween plan.now (progress plan.now steps) (Batch site inputs.now stop) disk.new) }
 {

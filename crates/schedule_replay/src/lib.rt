@@ -13,6 +13,7 @@ mod refusal;
 mod replaying;
 mod report;
 mod seats;
+mod taken;
 mod taking;
 mod walk;
 

@@ -161,17 +161,16 @@ pub(crate) fn restart_seat(
     site: SiteId,
     stop: Option<Stop>,
     disk: &mut MemDisk,
-) -> Result<Host, AllocError>
+) -> Result<Opened, AllocError>
     requires accepted { IsAccepted plan.now }
     requires here { site < count_of plan.now }
     requires holding { IsSomeHolding plan.now site disk.old }
     requires first { IfSome stop (λ s. 1 ≤ s.call) }
-    ensures seated { IfOk result (λ host. (batches : List (List Entry)) → IsHolding plan.now site batches disk.old → IsSeated plan.now site batches host disk.new) }
+    ensures seated { IfOk result (λ o. (batches : List (List Entry)) → IsHolding plan.now site batches disk.old → IsSeated plan.now site batches o.host disk.new) }
     ensures kept { OnErr result ((batches : List (List Entry)) → IsHolding plan.now site batches disk.old → IsHolding plan.now site batches disk.new) }
 {
     stop_opening(alloc, plan, site, stop, disk)?;
-    let Opened { host, .. } = open_seat(alloc, plan, site, disk)?;
-    Ok(host)
+    open_seat(alloc, plan, site, disk)
 }
 
 /// Where there is a stop, opens a site under it, however that ends, and crashes its disk.

@@ -2,15 +2,16 @@
 ghost use Rattle.std.specs.Prelude.{◌≡◌, List, IfOk, OnErr, is_some, if◌then◌else◌};
 ghost use Rattle.schedule_text.specs.declared.steps.Step.{Step};
 ghost use Rattle.schedule_text.specs.declared.steps.Step.TheVariants.{Restart};
-ghost use Rattle.schedule_replay.specs.Progress.{pass, progress, site_of};
+ghost use Rattle.schedule_replay.specs.Progress.{progress};
 ghost use Rattle.schedule_replay.specs.Standing.{IsBegun, IsBetween, IsPart, IsPlaced};
 
 use crate::batches::take_batch;
 use crate::output::Output;
 use crate::seats::restart_seat;
+use crate::taken::Taken;
 use disk_store::{MemDisk, Stop};
 use helios_model::{Plan, SiteId};
-use node_host::Host;
+use node_host::{Host, Opened};
 use schedule_text::Step;
 use std::alloc::{AllocError, Global};
 
@@ -34,17 +35,21 @@ fn restart(
     held: Option<Host>,
     disk: &mut MemDisk,
     output: &mut Output,
-) -> Result<Host, AllocError>
+) -> Result<Taken, AllocError>
     requires { (steps : List Step) × IsBegun plan.now steps number (Restart site stop) held disk.old output.old }
     ensures placed { IfOk result (λ after. (steps : List Step) → IsBegun plan.now steps number (Restart site stop) held disk.old output.old
-        → IsPlaced plan.now (pass plan.now (progress plan.now steps) (Restart site stop)) site after disk.new output.new) }
+        → IsPlaced plan.now (progress plan.now steps) (Restart site stop) after disk.new output.new) }
     ensures between { OnErr result ((steps : List Step) → IsBegun plan.now steps number (Restart site stop) held disk.old output.old
         → IsBetween plan.now (progress plan.now steps) (Restart site stop) disk.new) }
 {
     drop(held);
-    let host = restart_seat(alloc, plan, site, stop, disk)?;
+    let Opened { host, last, .. } = restart_seat(alloc, plan, site, stop, disk)?;
     output.tell_restart(alloc, number, site)?;
-    Ok(host)
+    Ok(Taken {
+        host,
+        commits: last,
+        are_new: false,
+    })
 }
 
 /// Takes a step at its site, which has this host where a step named it before.
@@ -56,10 +61,10 @@ pub(crate) fn take_step(
     held: Option<Host>,
     disk: &mut MemDisk,
     output: &mut Output,
-) -> Result<Host, AllocError>
+) -> Result<Taken, AllocError>
     requires { (steps : List Step) × IsPart plan.now steps number step.now held disk.old output.old }
     ensures placed { IfOk result (λ after. (steps : List Step) → IsPart plan.now steps number step.now held disk.old output.old
-        → IsPlaced plan.now (pass plan.now (progress plan.now steps) step.now) (site_of step.now) after disk.new output.new) }
+        → IsPlaced plan.now (progress plan.now steps) step.now after disk.new output.new) }
     ensures between { OnErr result ((steps : List Step) → IsPart plan.now steps number step.now held disk.old output.old
         → IsBetween plan.now (progress plan.now steps) step.now disk.new) }
 {

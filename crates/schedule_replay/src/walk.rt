@@ -15,6 +15,7 @@ use crate::closing::{push_commit_lines, push_site_lines};
 use crate::output::Output;
 use crate::refusal::{ReplayRefusal, inputs_refusal};
 use crate::report::Report;
+use crate::taken::Taken;
 use crate::taking::take_step;
 use disk_store::Bench;
 use helios_model::{Bytes, Commits, Message, Plan, SiteId};
@@ -135,8 +136,15 @@ impl Walk {
         let place = site.number() as usize;
         let held = hosts[place].take();
         let disk = bench.disk(site);
-        let host = take_step(alloc, &plan, number, step, held, disk, &mut output)?;
+        let Taken {
+            host,
+            commits,
+            are_new,
+        } = take_step(alloc, &plan, number, step, held, disk, &mut output)?;
         hosts[place] = Some(host);
+        if are_new {
+            output.commits.append(&mut commits.into_items())?;
+        }
         Ok(Walk {
             plan,
             hosts,

@@ -1,11 +1,10 @@
-use Rattle.std.proofs.Common.{◌∙◌, ◌++◌, ap, refl, sym, subst, List, None}
+use Rattle.std.proofs.Common.{subst, List, None}
 use Rattle.schedule_text.specs.declared.planned.Planned.{Planned}
 use Rattle.schedule_text.specs.declared.steps.Step.{Step}
 use Rattle.schedule_text.specs.declared.steps.Step.TheVariants.{Batch}
-use Rattle.schedule_replay.specs.declared.output.Output.{Output}
-use Rattle.schedule_replay.specs.Progress.{pass, progress}
+use Rattle.schedule_replay.specs.Progress.{progress}
 use Rattle.schedule_replay.specs.Taking.{HasTold}
-use Rattle.schedule_replay.specs.Standing.{IsBatchAt, IsBetween, IsPlaced}
+use Rattle.schedule_replay.specs.Standing.{IsBatchAt, IsBetween}
 use Rattle.schedule_replay.proofs.Seated.{on_err}
 use Rattle.schedule_replay.proofs.NextBatch.{batch_each, batch_few, batch_some}
 use Rattle.schedule_replay.proofs.Between.{run_between}
@@ -54,22 +53,9 @@ returns-in_err-tell_all-clause-between c =
     done_between c.args.plan.now steps c.args.number c.args.site inputs c.args.host c.in_ok-host.field-0.host c.args.entries c.args.disk.now c.run_batch.new.disk c.args.output.now h
     c.in_ok-host.ensures.seated)
 
-pub returns-in_err-append-clause-between : goal.returns-in_err-append-clause-between
-returns-in_err-append-clause-between c =
-    on_err ((steps : List Step) (inputs : List Planned) → IsBatchAt c.args.plan.now steps c.args.number c.args.site inputs None c.args.host c.args.entries c.args.disk.now c.args.output.now
-    → IsBetween c.args.plan.now (progress c.args.plan.now steps) (Batch c.args.site inputs None) c.run_batch.new.disk)
-    c.from_residual-in_err-append.result
-    (λ steps inputs h.
-    done_between c.args.plan.now steps c.args.number c.args.site inputs c.args.host c.in_ok-host.field-0.host c.args.entries c.args.disk.now c.run_batch.new.disk c.args.output.now h
-    c.in_ok-host.ensures.seated)
-
 pub returns-clause-placed : goal.returns-clause-placed
 returns-clause-placed c = λ steps inputs h.
-    let output' : Output = record { text = c.tell_all.new.self.text; sent = c.tell_all.new.self.sent; commits = c.append.new.self; refusals = c.tell_all.new.self.refusals; volume = c.tell_all.new.self.volume } in
     run_placed c.batch_moves_one_node.ensures c.host_laws.ensures.recovered c.args.plan.now steps c.args.number c.args.site inputs c.args.host c.in_ok-host.field-0.host c.args.entries
-    c.args.disk.now c.run_batch.new.disk c.args.output.now c.tell_all.new.self output' c.in_ok-host.field-0.replies c.in_ok-host.field-0.commits h c.in_ok-host.ensures.seated
+    c.args.disk.now c.run_batch.new.disk c.args.output.now c.tell_all.new.self c.in_ok-host.field-0.replies c.in_ok-host.field-0.commits h c.in_ok-host.ensures.seated
     c.in_ok-host.ensures.answered
     (subst (λ rs. HasTold c.args.number c.args.site c.args.output.now rs c.tell_all.new.self) c.into_items.ensures c.in_ok-tell_all.ensures)
-    refl refl
-    (c.in_ok-append.ensures.items ∙ ap (λ es. c.tell_all.new.self.commits.items ++ es) c.into_items-2.ensures)
-    refl refl

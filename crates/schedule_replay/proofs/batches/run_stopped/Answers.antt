@@ -1,10 +1,11 @@
-use Rattle.std.proofs.Common.{◌∙◌, ap, refl, sym, subst, List, Some}
+use Rattle.std.proofs.Common.{codes, if◌then◌else◌, sym, subst, List, Some}
 use Rattle.schedule_text.specs.declared.planned.Planned.{Planned}
 use Rattle.schedule_text.specs.declared.steps.Step.{Step}
 use Rattle.schedule_text.specs.declared.steps.Step.TheVariants.{Batch}
-use Rattle.schedule_replay.specs.Progress.{pass, progress}
+use Rattle.schedule_replay.specs.Progress.{progress}
+use Rattle.schedule_replay.specs.Report.{step_line}
 use Rattle.schedule_replay.specs.Standing.{IsBatchAt, IsBetween, IsPlaced}
-use Rattle.schedule_replay.specs.Taking.{HasStopped}
+use Rattle.schedule_replay.specs.Taking.{HasAdded}
 use Rattle.schedule_replay.proofs.Seated.{on_err}
 use Rattle.schedule_replay.proofs.NextBatch.{batch_each, batch_few, batch_journaled}
 use Rattle.schedule_replay.proofs.Between.{run_between}
@@ -36,18 +37,20 @@ returns-in_err-host-clause-between c =
     run_between c.args.plan.now steps c.args.number c.args.site inputs (Some c.args.stop) c.args.host c.args.entries c.args.disk.now c.stop_batch.new.disk c.args.output.now h
     c.in_err-host.ensures.kept)
 
-pub returns-in_err-tell_stop-clause-between : goal.returns-in_err-tell_stop-clause-between
-returns-in_err-tell_stop-clause-between c =
+pub returns-in_err-tell_stopped-clause-between : goal.returns-in_err-tell_stopped-clause-between
+returns-in_err-tell_stopped-clause-between c =
     on_err ((steps : List Step) (inputs : List Planned) → IsBatchAt c.args.plan.now steps c.args.number c.args.site inputs (Some c.args.stop) c.args.host c.args.entries c.args.disk.now c.args.output.now
     → IsBetween c.args.plan.now (progress c.args.plan.now steps) (Batch c.args.site inputs (Some c.args.stop)) c.stop_batch.new.disk)
-    c.from_residual-in_err-tell_stop.result
+    c.from_residual-in_err-tell_stopped.result
     (λ steps inputs h.
     stop_between c.args.plan.now steps c.args.number c.args.site inputs c.args.stop c.args.host c.in_ok-host.field-0.host c.args.entries c.args.disk.now c.stop_batch.new.disk
     c.args.output.now h c.in_ok-host.ensures.seated)
 
 pub returns-clause-placed : goal.returns-clause-placed
 returns-clause-placed c = λ steps inputs h.
-    stop_placed c.batch_moves_one_node.ensures c.host_laws.ensures.goes_on c.host_laws.ensures.recovered c.host_laws.ensures.suffice c.args.plan.now steps c.args.number c.args.site inputs
-    c.args.stop c.args.host c.in_ok-host.field-0.host c.args.entries c.in_ok-host.field-0.last c.args.disk.now c.stop_batch.new.disk c.args.output.now c.tell_stop.new.output h
+    subst (λ k. IsPlaced c.args.plan.now (progress c.args.plan.now steps) (Batch c.args.site inputs (Some c.args.stop)) (record { host = c.in_ok-host.field-0.host; commits = c.in_ok-host.field-0.last; are_new = k })
+    c.stop_batch.new.disk c.tell_stopped.new.self) (sym c.is_kept-are_new.ensures)
+    (stop_placed c.batch_moves_one_node.ensures c.host_laws.ensures.goes_on c.host_laws.ensures.recovered c.host_laws.ensures.suffice c.args.plan.now steps c.args.number c.args.site inputs
+    c.args.stop c.args.host c.in_ok-host.field-0.host c.args.entries c.in_ok-host.field-0.last c.args.disk.now c.stop_batch.new.disk c.args.output.now c.tell_stopped.new.self h
     c.in_ok-host.ensures.seated c.in_ok-host.ensures.last
-    c.in_ok-tell_stop.ensures
+    (subst (λ k. HasAdded c.args.output.now (step_line c.args.number c.args.site (if k then codes "kept" else codes "lost")) c.tell_stopped.new.self) c.is_kept-are_new.ensures c.in_ok-tell_stopped.ensures))

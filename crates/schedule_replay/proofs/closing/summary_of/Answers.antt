@@ -1,4 +1,4 @@
-use Rattle.std.proofs.Common.{sym, subst}
+use Rattle.std.proofs.Common.{subst}
 use Rattle.schedule_replay.specs.Walks.{IsSeat}
 use Rattle.schedule_replay.proofs.Ending.{host_summary, none_summary}
 use Rattle.schedule_replay.proofs.closing.summary_of.Goals as goal

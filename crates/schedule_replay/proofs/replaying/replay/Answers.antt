@@ -1,9 +1,7 @@
-use Rattle.std.proofs.Common.{◌≡◌, ◌∙◌, ap, sym, subst, refl, Ok, Err, ◌<◌, ◌≤◌, [], ◌∷◌, ◌++◌, get_or, take, length, arith}
+use Rattle.std.proofs.Common.{◌≡◌, ◌∙◌, ap, sym, subst, refl, Ok, Err, ◌<◌, [], ◌∷◌, ◌++◌, get_or, take, length, arith}
 use Rattle.std.proofs.lemmas.List.{take_all}
 use Rattle.helios_model.specs.Serial.{IsSerial}
-use Rattle.protocol_laws.specs.Safe.{IsSafe}
 use Rattle.schedule_text.specs.Steps.{IsStep}
-use Rattle.schedule_replay.specs.declared.report.Report.{Report}
 use Rattle.schedule_replay.specs.declared.walk.Walk.{Walk}
 use Rattle.schedule_replay.specs.Progress.{progress, reached}
 use Rattle.schedule_replay.specs.Refusals.{first_refusal, refusal_of}

@@ -1,11 +1,19 @@
-use Rattle.schedule_replay.proofs.Seating.{on_err}
+use Rattle.std.proofs.Common.{List}
+use Rattle.std.proofs.lemmas.Result.{IfOk-weaker, on_err_weaker}
+use Rattle.helios_model.specs.declared.entries.Entry.{Entry}
+use Rattle.node_host.specs.declared.host.Opened.{Opened}
+use Rattle.schedule_replay.specs.Seats.{IsHolding, IsSeated}
 use Rattle.schedule_replay.proofs.seats.restart_seat.Goals as goal
 
 pub open_seat-requires-clause-holding : goal.open_seat-requires-clause-holding
 open_seat-requires-clause-holding c = let some = c.requires.holding in (some.0, c.stop_opening.ensures.kept some.0 some.1)
 
-pub returns-in_err-host-clause-kept : goal.returns-in_err-host-clause-kept
-returns-in_err-host-clause-kept c = on_err _ c.from_residual-in_err-host.result (λ batches held. c.in_err-host.ensures.kept batches (c.stop_opening.ensures.kept batches held))
+pub returns-clause-kept : goal.returns-clause-kept
+returns-clause-kept c = on_err_weaker c.open_seat.result (λ f batches held. f batches (c.stop_opening.ensures.kept batches held)) c.open_seat.ensures.kept
 
 pub returns-clause-seated : goal.returns-clause-seated
-returns-clause-seated c = λ batches held. c.in_ok-host.ensures.seated batches (c.stop_opening.ensures.kept batches held)
+returns-clause-seated c =
+    IfOk-weaker c.open_seat.result
+    (λ (o : Opened). (batches : List (List Entry)) → IsHolding c.args.plan.now c.args.site batches c.stop_opening.new.disk → IsSeated c.args.plan.now c.args.site batches o.host c.open_seat.new.disk)
+    (λ (o : Opened). (batches : List (List Entry)) → IsHolding c.args.plan.now c.args.site batches c.args.disk.now → IsSeated c.args.plan.now c.args.site batches o.host c.open_seat.new.disk)
+    (λ o f batches held. f batches (c.stop_opening.ensures.kept batches held)) c.open_seat.ensures.seated

@@ -35,10 +35,10 @@ returns-in_err-tell_restart-clause-between c =
     → IsBetween c.args.plan.now (progress c.args.plan.now steps) (Restart c.args.site c.args.stop) c.restart_seat.new.disk)
     c.from_residual-in_err-tell_restart.result
     (λ steps b. begun_holds c.args.plan.now steps c.args.number (Restart c.args.site c.args.stop) c.args.site c.args.held c.args.disk.now c.restart_seat.new.disk c.args.output.now b refl
-    (λ batches k. seated_holds c.args.plan.now c.args.site batches c.in_ok-host.host c.restart_seat.new.disk
+    (λ batches k. seated_holds c.args.plan.now c.args.site batches c.in_ok-host.field-0.host c.restart_seat.new.disk
     (c.in_ok-host.ensures.seated batches (held_holds c.args.plan.now c.args.site batches c.args.held c.args.disk.now k))))
 
 pub returns-clause-placed : goal.returns-clause-placed
 returns-clause-placed c = λ steps b.
-    restart_placed c.args.plan.now steps c.args.number c.args.site c.args.stop c.args.held c.in_ok-host.host c.args.disk.now c.restart_seat.new.disk c.args.output.now c.tell_restart.new.self b
+    restart_placed c.args.plan.now steps c.args.number c.args.site c.args.stop c.args.held c.in_ok-host.field-0.host c.in_ok-host.field-0.last c.args.disk.now c.restart_seat.new.disk c.args.output.now c.tell_restart.new.self b
     c.in_ok-host.ensures.seated c.in_ok-tell_restart.ensures

@@ -1,5 +1,4 @@
-use Rattle.std.proofs.Common.{◌≡◌, ◌∙◌, ap, sym, subst, List}
-use Rattle.schedule_text.specs.declared.steps.Step.{Step}
+use Rattle.std.proofs.Common.{◌∙◌, ap, sym, subst}
 use Rattle.schedule_text.specs.declared.steps.Step.TheVariants.{Batch, Restart}
 use Rattle.schedule_replay.specs.Standing.{IsBegun}
 use Rattle.schedule_replay.proofs.StepBegun.{part_begun, part_between, part_placed}

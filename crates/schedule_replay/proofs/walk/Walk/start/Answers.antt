@@ -1,4 +1,4 @@
-use Rattle.std.proofs.Common.{◌≡◌, ◌∙◌, sym, subst, refl, None, replicate}
+use Rattle.std.proofs.Common.{◌≡◌, subst, refl, None, replicate}
 use Rattle.schedule_replay.specs.WalkStates.{WalkState}
 use Rattle.schedule_replay.proofs.Starting.{bench_first, each_site, walk_starts}
 use Rattle.schedule_replay.proofs.walk.Walk.start.Goals as goal
