@@ -160,7 +160,7 @@ entries_taken taken count whole bytes y h e =
     (told, record { some = omega (arith, low, many); few = omega (arith, high, many); each = r.fit })
 
 -- nothing is left behind what is the whole input
-empty_is : (xs : List ℕ) → length xs ≡ 0 → xs ≡ []
+pub empty_is : (xs : List ℕ) → length xs ≡ 0 → xs ≡ []
 empty_is [] e = refl
 empty_is (x ∷ xs) e = absurd (omega (arith, e))
 
@@ -168,7 +168,7 @@ accepted_is : {X : Type 0} (b : Bool) (x y : X) (fault : DecodeFault) → cond {
 accepted_is true x y fault e = (refl, ok_is x y e)
 accepted_is false x y fault e = absurd cc
 
-none_left : {X : Type 0} (whole : ℕ) (x : X × List ℕ) (y : X) → whole_input whole x ≡ Ok y → (x.0 ≡ y) × (x.1 ≡ [])
+pub none_left : {X : Type 0} (whole : ℕ) (x : X × List ℕ) (y : X) → whole_input whole x ≡ Ok y → (x.0 ≡ y) × (x.1 ≡ [])
 none_left whole x y e =
     let t = accepted_is (length x.1 == 0) x.0 y (Bad (whole - length x.1)) e in
     (t.1, empty_is x.1 (eqb-true (length x.1) 0 t.0))

@@ -10,5 +10,6 @@ pub mod MessageFields
 pub mod Asked
 pub mod EntryAgain
 pub mod EntryTaken
+pub mod HeadTaken
 pub mod Kept
 pub mod MostLengths

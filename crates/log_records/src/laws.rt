@@ -29,6 +29,17 @@ pub fn heads_are_read_again()
     ensures { (head : Head) → IsSpellableHead head → head_of (head_bytes head) ≡ Ok head }
 {}
 
+/// What is read from bytes is a head that has a spelling, and they are it.
+pub fn what_is_read_is_a_head()
+    ensures { (bytes : List ℕ) (head : Head) → All (λ b. b < 256) bytes → head_of bytes ≡ Ok head → IsSpellableHead head × (bytes ≡ head_bytes head) }
+{}
+
+/// No spelling of a head begins the spelling of another one.
+pub fn no_head_begins_another()
+    ensures { (head other : Head) (rest : List ℕ) → IsSpellableHead head → IsSpellableHead other → head_bytes other ≡ head_bytes head ++ rest
+        → (head ≡ other) × (rest ≡ []) }
+{}
+
 /// A message that has a spelling is read again as it was, whatever follows it.
 #[tactic(auto, using(crate::proofs::MessageAgain::message_again))]
 pub fn messages_are_read_again()
