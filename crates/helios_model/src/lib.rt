@@ -42,7 +42,8 @@ pub use records::{CommitEvent, Commits, Record, Records};
 pub use short::{each_short_pair_is_found, first_short};
 pub use squares::{first_away, first_too_long, first_uneven};
 pub use texts::{
-    Misspelled, ids_are_read_again, is_name, key_from, value_from, versions_are_read_again,
+    Misspelled, ids_are_read_again, is_name, key_from, number_from, value_from,
+    versions_are_read_again,
 };
 pub use transactions::{
     Ask, Prepare, PutItem, Puts, ReadItem, Reads, WriteItem, Writes, conflicts,

@@ -70,8 +70,9 @@ fn is_plain(digits: &[u8]) -> bool
     has_plain_front(digits) && all_digits(digits)
 }
 
+/// The number below 2^64 that a text writes in decimal, with no 0 in front of other digits.
 #[tactic(auto, unfolding(crate::specs::Spellings::number_of), using(crate::proofs::SpellingSteps::number_read, crate::proofs::SpellingSteps::number_refused))]
-fn number_from(text: &str) -> Option<u64>
+pub fn number_from(text: &str) -> Option<u64>
     ensures { result ≡ number_of text.now }
 {
     if is_plain(text.as_bytes()) {
