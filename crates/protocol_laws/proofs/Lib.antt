@@ -53,5 +53,6 @@ pub mod Spelling
 pub mod ToldReplies
 pub mod ToldLaws
 pub mod Waiting
+pub mod SpelledCommits
 pub mod OneSite
 pub mod Safe

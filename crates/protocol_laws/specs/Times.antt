@@ -7,7 +7,7 @@ use Rattle.helios_model.specs.Plans.{PlanData, IsAccepted, count_of}
 use Rattle.helios_model.specs.Transactions.{Asking, IsAsk, IsTransaction}
 use Rattle.helios_model.specs.Node.{Node}
 use Rattle.helios_model.specs.Request.{asked}
-use Rattle.helios_model.specs.Spellable.{IsSpellableEntry, IsSpellableRecord, IsSpellableReply}
+use Rattle.helios_model.specs.Spellable.{IsSpellableEntry, IsSpellableId, IsSpellableRecord, IsSpellableReply}
 use Rattle.helios_model.specs.Step.{MayBeAsked}
 use Rattle.helios_model.specs.World.{World, entries_of}
 use Rattle.protocol_laws.specs.Reached.{InEachWorld, AtEachNode}
@@ -39,6 +39,13 @@ RecordsAreSpellable plan n = IsAccepted plan → All (IsSpellableRecord (count_o
 
 abbrev pub EachRecordIsSpellable : Type 0
 EachRecordIsSpellable = AtEachNode RecordsAreSpellable
+
+-- the id of each committed transaction has a spelling, so its time is from 1 to the last
+abbrev pub CommitsAreSpellable : PlanData → World → Type 0
+CommitsAreSpellable plan w = IsAccepted plan → All (λ e. IsSpellableId (count_of plan) e.prepare.id) w.history
+
+abbrev pub EachCommitIsSpellable : Type 0
+EachCommitIsSpellable = InEachWorld CommitsAreSpellable
 
 -- each released reply has a spelling
 abbrev pub RepliesAreSpellable : PlanData → World → Type 0

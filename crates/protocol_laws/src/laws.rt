@@ -10,7 +10,7 @@ ghost use Rattle.protocol_laws.specs.Ceiling.{EachNodeStaysBelow};
 ghost use Rattle.protocol_laws.specs.Placed.{EachNodeIsPlaced};
 ghost use Rattle.protocol_laws.specs.Moves.{BatchMovesOneNode};
 ghost use Rattle.protocol_laws.specs.Symmetry.{ConflictIsSymmetric};
-ghost use Rattle.protocol_laws.specs.Times.{AskedIsTransaction, EachEntryMayBeAsked, EachTableIsSmall, EachRecordIsSpellable, EachReplyIsSpellable, EachEntryIsSpellable};
+ghost use Rattle.protocol_laws.specs.Times.{AskedIsTransaction, EachEntryMayBeAsked, EachTableIsSmall, EachCommitIsSpellable, EachRecordIsSpellable, EachReplyIsSpellable, EachEntryIsSpellable};
 
 /// Conflict is the same from both sides.
 pub fn conflict_is_symmetric()
@@ -66,6 +66,11 @@ pub fn each_time_rises()
 /// half microseconds, and its keys and values are within their limits.
 pub fn each_record_is_spellable()
     ensures { EachRecordIsSpellable }
+{}
+
+/// In each world of an accepted plan the id of each committed transaction has a spelling: a time from 1 to 2^62 half microseconds.
+pub fn each_commit_is_spellable()
+    ensures { EachCommitIsSpellable }
 {}
 
 /// In each world of an accepted plan each reply that was told has a spelling, and with it each message that was sent.
