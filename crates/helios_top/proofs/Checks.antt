@@ -11,8 +11,8 @@ use Rattle.plan_certificate.specs.Says.{Says}
 use Rattle.helios_top.specs.declared.ending.Ending.TheVariants.{Judged}
 use Rattle.helios_top.specs.declared.ending.Refusal.TheVariants.{OfPlan}
 use Rattle.helios_top.specs.declared.words.Command.TheVariants.{Check}
-use Rattle.helios_top.specs.Answers.{EndsOver, RefusedOr}
-use Rattle.helios_top.specs.Ending.{line, status_of, text_of}
+use Rattle.helios_top.specs.Answers.{EndsOver}
+use Rattle.helios_top.specs.Ending.{RefusedOr, line, status_of, text_of}
 use Rattle.helios_top.specs.Refusals.{refusal_in}
 use Rattle.helios_top.specs.Runs.Check.{IsBest, IsJudged}
 

@@ -1,29 +1,70 @@
 -- What the answers of each command come to.
 use Rattle.std.proofs.Common.{◌≡◌, ℕ, List, Result, Ok, Err, IsOkAnd, refl}
+use Rattle.history_audit.specs.declared.history.Item.{Item}
+use Rattle.history_audit.specs.declared.refusal.HistoryRefusal.{HistoryRefusal}
+use Rattle.history_audit.specs.declared.verdict.AuditVerdict.{AuditVerdict}
+use Rattle.history_audit.specs.Reading.{history_of_text}
 use Rattle.rtt_matrix.specs.declared.refusal.MatrixRefusal.{MatrixRefusal}
 use Rattle.rtt_matrix.specs.Reading.{matrix_of_text}
-use Rattle.helios_model.specs.Plans.{MatrixData}
+use Rattle.helios_model.specs.Plans.{MatrixData, PlanData}
+use Rattle.helios_model.specs.declared.plans.Certificate.{Certificate}
+use Rattle.commit_offsets.specs.declared.refusal.PlanRefusal.{PlanRefusal}
+use Rattle.commit_offsets.specs.Reading.{plan_of_text}
 use Rattle.plan_certificate.specs.declared.verdict.Verdict.{Verdict}
 use Rattle.schedule_text.specs.declared.refusal.ScheduleRefusal.{ScheduleRefusal}
 use Rattle.schedule_text.specs.declared.steps.Schedule.{Schedule}
 use Rattle.schedule_text.specs.Reading.{schedule_of_text}
+use Rattle.helios_top.specs.declared.replay.Told.{Told}
+use Rattle.helios_top.specs.declared.replay.Told.TheVariants as told
 use Rattle.helios_top.specs.declared.words.Command.{Command}
-use Rattle.helios_top.specs.declared.words.Command.TheVariants.{Check, Plan, Replay}
-use Rattle.helios_top.specs.declared.ending.Ending.TheVariants.{Judged}
+use Rattle.helios_top.specs.declared.words.Command.TheVariants.{Audit, Check, History, Plan, Replay, Trial}
+use Rattle.helios_top.specs.declared.ending.Ending.TheVariants.{Audited, Judged}
 use Rattle.helios_top.specs.Answers.{IsAnswer}
+use Rattle.helios_top.specs.Replays.{IsReplayed}
+use Rattle.helios_top.specs.Runs.Audit.{IsAudited}
+use Rattle.helios_top.specs.Runs.Check.{IsJudged}
 use Rattle.helios_top.specs.Runs.Plan.{IsPlanned}
-use Rattle.helios_top.specs.Runs.Replay.{IsReported}
 
-replay_prints : (said : Result Schedule ScheduleRefusal) (verdict : Verdict) → IsOkAnd said (λ schedule. IsReported schedule (Judged verdict)) → ⊥
-replay_prints (Err refusal) verdict h = h
-replay_prints (Ok schedule) verdict h = let e = h.printed in cc
+-- ---- of the commands only `check` gives a verdict on a plan
 
-plan_prints : (said : Result MatrixData MatrixRefusal) (verdict : Verdict) → IsOkAnd said (λ matrix. IsPlanned matrix (Judged verdict)) → ⊥
-plan_prints (Err refusal) verdict h = h
-plan_prints (Ok matrix) verdict h = let e = h.printed in cc
+replay_judges : (what : Told) (said : Result Schedule ScheduleRefusal) (verdict : Verdict) → IsOkAnd said (λ schedule. IsReplayed what schedule (Judged verdict)) → ⊥
+replay_judges what (Err refusal) verdict h = h
+replay_judges what (Ok schedule) verdict h = let e = h.printed in cc
 
--- of the commands only `check` gives a verdict
+plan_judges : (said : Result MatrixData MatrixRefusal) (verdict : Verdict) → IsOkAnd said (λ matrix. IsPlanned matrix (Judged verdict)) → ⊥
+plan_judges (Err refusal) verdict h = h
+plan_judges (Ok matrix) verdict h = let e = h.printed in cc
+
+audit_judges : (said : Result (List Item) HistoryRefusal) (verdict : Verdict) → IsOkAnd said (λ history. IsAudited history (Judged verdict)) → ⊥
+audit_judges (Err refusal) verdict h = h
+audit_judges (Ok history) verdict h = cc
+
 pub only_check_judges : (command : Command) (verdict : Verdict) (bytes : List ℕ) → IsAnswer command (Judged verdict) bytes → command ≡ Check
-only_check_judges Replay verdict bytes h = absurd (replay_prints (schedule_of_text bytes) verdict h)
+only_check_judges Replay verdict bytes h = absurd (replay_judges told.Report (schedule_of_text bytes) verdict h)
+only_check_judges History verdict bytes h = absurd (replay_judges told.History (schedule_of_text bytes) verdict h)
+only_check_judges (Trial number) verdict bytes h = let e = h.printed in cc
 only_check_judges Check verdict bytes h = refl
-only_check_judges Plan verdict bytes h = absurd (plan_prints (matrix_of_text bytes) verdict h)
+only_check_judges Plan verdict bytes h = absurd (plan_judges (matrix_of_text bytes) verdict h)
+only_check_judges Audit verdict bytes h = absurd (audit_judges (history_of_text bytes) verdict h)
+
+-- ---- and only `audit` one on a history
+
+replay_audits : (what : Told) (said : Result Schedule ScheduleRefusal) (verdict : AuditVerdict) → IsOkAnd said (λ schedule. IsReplayed what schedule (Audited verdict)) → ⊥
+replay_audits what (Err refusal) verdict h = h
+replay_audits what (Ok schedule) verdict h = let e = h.printed in cc
+
+plan_audits : (said : Result MatrixData MatrixRefusal) (verdict : AuditVerdict) → IsOkAnd said (λ matrix. IsPlanned matrix (Audited verdict)) → ⊥
+plan_audits (Err refusal) verdict h = h
+plan_audits (Ok matrix) verdict h = let e = h.printed in cc
+
+check_audits : (said : Result (PlanData × Certificate) PlanRefusal) (verdict : AuditVerdict) → IsOkAnd said (λ read. IsJudged read.0 read.1.pair (Audited verdict)) → ⊥
+check_audits (Err refusal) verdict h = h
+check_audits (Ok read) verdict h = let e = h.judged in cc
+
+pub only_audit_audits : (command : Command) (verdict : AuditVerdict) (bytes : List ℕ) → IsAnswer command (Audited verdict) bytes → command ≡ Audit
+only_audit_audits Replay verdict bytes h = absurd (replay_audits told.Report (schedule_of_text bytes) verdict h)
+only_audit_audits History verdict bytes h = absurd (replay_audits told.History (schedule_of_text bytes) verdict h)
+only_audit_audits (Trial number) verdict bytes h = let e = h.printed in cc
+only_audit_audits Check verdict bytes h = absurd (check_audits (plan_of_text bytes) verdict h)
+only_audit_audits Plan verdict bytes h = absurd (plan_audits (matrix_of_text bytes) verdict h)
+only_audit_audits Audit verdict bytes h = refl

@@ -1,25 +1,28 @@
 -- What the end of a run, and what was written of it, say of each status.
-use Rattle.std.proofs.Common.{◌≡◌, ◌≢◌, ℕ, ◌≤◌, ◌⊎◌, inl, inr, List, ◌++◌, Option, Some, None, IfSome, codes, refl, sym, ◌∙◌, ap, subst, arith}
+use Rattle.std.proofs.Common.{◌≡◌, ◌≢◌, true, ℕ, ◌≤◌, ◌⊎◌, inl, inr, List, [], ◌++◌, Option, Some, None, IfSome, codes, refl, sym, ◌∙◌, ap, subst, arith}
 use Rattle.std.specs.Io.KnownBytes.{Appends}
 use Rattle.outside_io.specs.Causes.{Rose}
 use Rattle.outside_io.specs.Seen.{SourceSeen, SinkSeen}
+use Rattle.history_audit.specs.declared.verdict.AuditVerdict.{AuditVerdict}
+use Rattle.history_audit.specs.declared.verdict.AuditVerdict.TheVariants as audits
 use Rattle.plan_certificate.specs.declared.verdict.Verdict.{Verdict}
 use Rattle.plan_certificate.specs.declared.verdict.Verdict.TheVariants as verdicts
 use Rattle.helios_top.specs.declared.words.Command.{Command}
-use Rattle.helios_top.specs.declared.words.Command.TheVariants.{Check, Plan, Replay}
+use Rattle.helios_top.specs.declared.words.Command.TheVariants.{Audit, Check, History, Plan, Replay, Trial}
 use Rattle.helios_top.specs.declared.ending.Refusal.{Refusal}
 use Rattle.helios_top.specs.declared.ending.Ending.{Ending}
-use Rattle.helios_top.specs.declared.ending.Ending.TheVariants.{Usage, ReadFault, NoMemory, Refused, Printed, Judged}
+use Rattle.helios_top.specs.declared.ending.Ending.TheVariants.{Usage, ReadFault, NoMemory, Refused, Printed, Judged, Audited}
 use Rattle.helios_top.specs.Answers.{EndsBy, IsAnswer}
 use Rattle.helios_top.specs.Benches.{BenchAfter, Leaves}
-use Rattle.helios_top.specs.Ending.{Came, IsDone, line, refusal_text, status_of, text_of}
+use Rattle.helios_top.specs.Ending.{Came, IsDone, RefusedOr, line, refusal_text, status_of, text_of}
 use Rattle.helios_top.specs.Inputs.{IsAnsweredInput, IsRefusedInput, ReadsInput}
 use Rattle.helios_top.specs.IsRun.{IsRun, Writes}
 use Rattle.helios_top.specs.Outside.{IsLater, Outside}
-use Rattle.helios_top.specs.Refusals.{refusal_of}
-use Rattle.helios_top.specs.Verdicts.{verdict_status}
+use Rattle.helios_top.specs.Refusals.{leaves_input, refusal_of}
+use Rattle.helios_top.specs.Runs.Trial.{IsTrialAnswer, TrialEnds}
+use Rattle.helios_top.specs.Verdicts.{audit_status, verdict_status}
 use Rattle.helios_top.specs.Words.{command_of}
-use Rattle.helios_top.proofs.Commands.{only_check_judges}
+use Rattle.helios_top.proofs.Commands.{only_audit_audits, only_check_judges}
 use Rattle.helios_top.proofs.Inputs.{done_or_no_memory, if_told, refused_is_own, refused_or_fault}
 
 -- ---- which end has each status
@@ -30,6 +33,10 @@ verdict_is_0_or_9 (verdicts.Short i j) = inr refl
 verdict_is_0_or_9 (verdicts.NoPairing i) = inr refl
 verdict_is_0_or_9 (verdicts.ValueDiffers given value) = inr refl
 
+audit_is_0_or_9 : (verdict : AuditVerdict) → (audit_status verdict ≡ 0) ⊎ (audit_status verdict ≡ 9)
+audit_is_0_or_9 (audits.Serial count) = inl refl
+audit_is_0_or_9 (audits.NotSerial place key read current) = inr refl
+
 is_0 : (ending : Ending) → status_of ending ≡ 0 → IsDone ending
 is_0 Usage e = absurd (omega arith)
 is_0 ReadFault e = absurd (omega arith)
@@ -37,6 +44,7 @@ is_0 NoMemory e = absurd (omega arith)
 is_0 (Refused refusal) e = absurd (omega arith)
 is_0 (Printed text) e = tt
 is_0 (Judged verdict) e = tt
+is_0 (Audited verdict) e = tt
 
 -- the end with a status is this one, where no verdict has the status
 is_1 : (ending : Ending) → status_of ending ≡ 1 → ending ≡ Usage
@@ -46,6 +54,7 @@ is_1 NoMemory e = absurd (omega arith)
 is_1 (Refused refusal) e = absurd (omega arith)
 is_1 (Printed text) e = absurd (omega arith)
 is_1 (Judged verdict) e = elim (verdict_is_0_or_9 verdict) [ inl zero ↦ absurd (omega arith) | inr nine ↦ absurd (omega arith) ]
+is_1 (Audited verdict) e = elim (audit_is_0_or_9 verdict) [ inl zero ↦ absurd (omega arith) | inr nine ↦ absurd (omega arith) ]
 
 is_2 : (ending : Ending) → status_of ending ≡ 2 → ending ≡ ReadFault
 is_2 Usage e = absurd (omega arith)
@@ -54,6 +63,7 @@ is_2 NoMemory e = absurd (omega arith)
 is_2 (Refused refusal) e = absurd (omega arith)
 is_2 (Printed text) e = absurd (omega arith)
 is_2 (Judged verdict) e = elim (verdict_is_0_or_9 verdict) [ inl zero ↦ absurd (omega arith) | inr nine ↦ absurd (omega arith) ]
+is_2 (Audited verdict) e = elim (audit_is_0_or_9 verdict) [ inl zero ↦ absurd (omega arith) | inr nine ↦ absurd (omega arith) ]
 
 is_4 : (ending : Ending) → status_of ending ≡ 4 → ending ≡ NoMemory
 is_4 Usage e = absurd (omega arith)
@@ -62,6 +72,7 @@ is_4 NoMemory e = refl
 is_4 (Refused refusal) e = absurd (omega arith)
 is_4 (Printed text) e = absurd (omega arith)
 is_4 (Judged verdict) e = elim (verdict_is_0_or_9 verdict) [ inl zero ↦ absurd (omega arith) | inr nine ↦ absurd (omega arith) ]
+is_4 (Audited verdict) e = elim (audit_is_0_or_9 verdict) [ inl zero ↦ absurd (omega arith) | inr nine ↦ absurd (omega arith) ]
 
 is_5 : (ending : Ending) → status_of ending ≡ 5 → (refusal : Refusal) × (ending ≡ Refused refusal)
 is_5 Usage e = absurd (omega arith)
@@ -70,14 +81,16 @@ is_5 NoMemory e = absurd (omega arith)
 is_5 (Refused refusal) e = (refusal, refl)
 is_5 (Printed text) e = absurd (omega arith)
 is_5 (Judged verdict) e = elim (verdict_is_0_or_9 verdict) [ inl zero ↦ absurd (omega arith) | inr nine ↦ absurd (omega arith) ]
+is_5 (Audited verdict) e = elim (audit_is_0_or_9 verdict) [ inl zero ↦ absurd (omega arith) | inr nine ↦ absurd (omega arith) ]
 
-is_9 : (ending : Ending) → status_of ending ≡ 9 → (verdict : Verdict) × (ending ≡ Judged verdict)
+is_9 : (ending : Ending) → status_of ending ≡ 9 → ((verdict : Verdict) × (ending ≡ Judged verdict)) ⊎ ((verdict : AuditVerdict) × (ending ≡ Audited verdict))
 is_9 Usage e = absurd (omega arith)
 is_9 ReadFault e = absurd (omega arith)
 is_9 NoMemory e = absurd (omega arith)
 is_9 (Refused refusal) e = absurd (omega arith)
 is_9 (Printed text) e = absurd (omega arith)
-is_9 (Judged verdict) e = (verdict, refl)
+is_9 (Judged verdict) e = inl (verdict, refl)
+is_9 (Audited verdict) e = inr (verdict, refl)
 
 -- the status of an end is none of a write fault
 due_status : (ending : Ending) → ((status_of ending ≤ 5) ⊎ (status_of ending ≡ 9)) × (status_of ending ≢ 3)
@@ -87,6 +100,10 @@ due_status NoMemory = (inl (omega arith), λ e. omega arith)
 due_status (Refused refusal) = (inl (omega arith), λ e. omega arith)
 due_status (Printed text) = (inl (omega arith), λ e. omega arith)
 due_status (Judged verdict) = elim (verdict_is_0_or_9 verdict) [
+  | inl zero ↦ (inl (omega arith), λ e. omega arith)
+  | inr nine ↦ (inr nine, λ e. omega arith)
+]
+due_status (Audited verdict) = elim (audit_is_0_or_9 verdict) [
   | inl zero ↦ (inl (omega arith), λ e. omega arith)
   | inr nine ↦ (inr nine, λ e. omega arith)
 ]
@@ -152,7 +169,7 @@ no_words (Some command) old new ending h e = let usage : ReadsInput command old 
 
 read_failed : (named : Option Command) (old new : SourceSeen) (ending : Ending) → EndsBy named old new ending → ending ≡ ReadFault → Rose old.faults new.faults
 read_failed None old new ending h e = cc
-read_failed (Some command) old new ending h e = (subst (λ (end : Ending). EndsBy (Some command) old new end) e h).0
+read_failed (Some command) old new ending h e = (subst (λ (end : Ending). EndsBy (Some command) old new end) e h).1
 
 -- the command that the words name, and what its run says
 named_ends : (named : Option Command) (command : Command) (old new : SourceSeen) (ending : Ending) → EndsBy named old new ending → named ≡ Some command
@@ -174,15 +191,51 @@ judged_by : (named : Option Command) (old new : SourceSeen) (ending : Ending) (v
 judged_by None old new ending verdict h e = cc
 judged_by (Some command) old new ending verdict h e =
     let is : IsAnsweredInput command old new (IsAnswer command (Judged verdict)) = subst (λ (end : Ending). EndsBy (Some command) old new end) e h in
-    ap Some (only_check_judges command verdict is.bytes is.holds.1)
+    ap Some (elim is [
+      | inl read ↦ only_check_judges command verdict read.1.bytes read.1.holds.1
+      | inr none ↦ only_check_judges command verdict [] none.1.1
+    ])
+
+audited_by : (named : Option Command) (old new : SourceSeen) (ending : Ending) (verdict : AuditVerdict) → EndsBy named old new ending → ending ≡ Audited verdict → named ≡ Some Audit
+audited_by None old new ending verdict h e = cc
+audited_by (Some command) old new ending verdict h e =
+    let is : IsAnsweredInput command old new (IsAnswer command (Audited verdict)) = subst (λ (end : Ending). EndsBy (Some command) old new end) e h in
+    ap Some (elim is [
+      | inl read ↦ only_audit_audits command verdict read.1.bytes read.1.holds.1
+      | inr none ↦ only_audit_audits command verdict [] none.1.1
+    ])
+
+denied_by : (named : Option Command) (old new : SourceSeen) (ending : Ending) → EndsBy named old new ending → status_of ending ≡ 9 → (named ≡ Some Check) ⊎ (named ≡ Some Audit)
+denied_by named old new ending h e = elim (is_9 ending e) [
+  | inl judged ↦ inl (judged_by named old new ending judged.0 h judged.1)
+  | inr audited ↦ inr (audited_by named old new ending audited.0 h audited.1)
+]
+
+-- a trial goes by its number alone
+trial_ends : (number : ℕ) (old new : SourceSeen) (ending : Ending) → ReadsInput (Trial number) old new ending (IsAnswer (Trial number) ending) → TrialEnds number ending
+trial_ends number old new Usage h = absurd h
+trial_ends number old new ReadFault h = let idle = h.0 in absurd (cc)
+trial_ends number old new NoMemory h = inr refl
+trial_ends number old new (Refused refusal) (inl large) = let idle = large.1 in absurd (cc)
+trial_ends number old new (Refused refusal) (inr (inl read)) = let idle = read.0 in absurd (cc)
+trial_ends number old new (Refused refusal) (inr (inr none)) =
+    inl (subst (λ (found : Option Refusal). RefusedOr found (Refused refusal) (IsTrialAnswer number (Refused refusal))) (sym none.1) refl)
+trial_ends number old new (Printed text) (inl read) = let idle = read.0 in absurd (cc)
+trial_ends number old new (Printed text) (inr none) =
+    inl (subst (λ (found : Option Refusal). RefusedOr found (Printed text) (IsTrialAnswer number (Printed text))) (sym none.1.0) (tt, none.1.1))
+trial_ends number old new (Judged verdict) (inl read) = let idle = read.0 in absurd (cc)
+trial_ends number old new (Judged verdict) (inr none) = let e = none.1.1.printed in absurd (cc)
+trial_ends number old new (Audited verdict) (inl read) = let idle = read.0 in absurd (cc)
+trial_ends number old new (Audited verdict) (inr none) = let e = none.1.1.printed in absurd (cc)
 
 -- ---- the whole page
 
 pub is_run : (words : List (List ℕ)) (before after : Outside) (ending : Ending) (status : ℕ) → EndsBy (command_of words) before.input after.input ending
     → (ending ≢ ReadFault → after.input.faults ≡ before.input.faults) → Came before.output after.output ending status
     → (status ≢ 3 → after.output.faults ≡ before.output.faults) → IsLater before after
-    → BenchAfter (command_of words) before.input after.input before.bench after.bench ending → IsRun words before after status
-is_run words before after ending status ends reads came writes later leaves = record {
+    → BenchAfter (command_of words) before.input after.input before.bench after.bench ending
+    → (leaves_input (command_of words) ≡ true → after.input ≡ before.input) → IsRun words before after status
+is_run words before after ending status ends reads came writes later leaves unread = record {
   ending = ending;
   came = came;
   later = later;
@@ -208,12 +261,20 @@ is_run words before after ending status ends reads came writes later leaves = re
   refused_only = if_told before.input.left _ (λ bytes told command named refusal e.
       refused_or_fault command before.input after.input ending (IsAnswer command ending) bytes refusal told (named_ends (command_of words) command before.input after.input ending ends named) e);
   denied = λ e. let d = due before.output after.output ending status came (λ three. omega arith) (λ four. omega arith) in
-      let is = is_9 ending (d.status_is ∙ e) in
-      (judged_by (command_of words) before.input after.input ending is.0 ends is.1, d.written);
+      (denied_by (command_of words) before.input after.input ending ends (d.status_is ∙ e), d.written);
   bench = leaves;
   replay = λ e. record {
     reads = named_ends (command_of words) Replay before.input after.input ending ends e;
     bench = named_leaves (command_of words) Replay before after ending leaves e;
+  };
+  history = λ e. record {
+    reads = named_ends (command_of words) History before.input after.input ending ends e;
+    bench = named_leaves (command_of words) History before after ending leaves e;
+  };
+  trial = λ number e. record {
+    unread = unread (ap leaves_input e);
+    ends = trial_ends number before.input after.input ending (named_ends (command_of words) (Trial number) before.input after.input ending ends e);
+    bench = named_leaves (command_of words) (Trial number) before after ending leaves e;
   };
   check = λ e. record {
     reads = named_ends (command_of words) Check before.input after.input ending ends e;
@@ -222,5 +283,9 @@ is_run words before after ending status ends reads came writes later leaves = re
   plan = λ e. record {
     reads = named_ends (command_of words) Plan before.input after.input ending ends e;
     bench = named_leaves (command_of words) Plan before after ending leaves e;
+  };
+  audit = λ e. record {
+    reads = named_ends (command_of words) Audit before.input after.input ending ends e;
+    bench = named_leaves (command_of words) Audit before after ending leaves e;
   };
 }

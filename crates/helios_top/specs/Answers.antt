@@ -1,30 +1,30 @@
--- What each command answers to the bytes that it read, and the end of a run before anything is written.
+-- What each command answers to what it goes by, and the end of a run before anything is written.
 use Rattle.std.specs.Prelude.{◌≡◌, ℕ, List, Option, Some, None}
 use Rattle.outside_io.specs.Seen.{SourceSeen}
+use Rattle.helios_top.specs.declared.replay.Told.TheVariants as told
 use Rattle.helios_top.specs.declared.words.Command.{Command}
-use Rattle.helios_top.specs.declared.words.Command.TheVariants.{Check, Plan, Replay}
-use Rattle.helios_top.specs.declared.ending.Refusal.{Refusal}
+use Rattle.helios_top.specs.declared.words.Command.TheVariants.{Audit, Check, History, Plan, Replay, Trial}
 use Rattle.helios_top.specs.declared.ending.Ending.{Ending}
-use Rattle.helios_top.specs.declared.ending.Ending.TheVariants.{Usage, Refused}
-use Rattle.helios_top.specs.Ending.{IsDone}
+use Rattle.helios_top.specs.declared.ending.Ending.TheVariants.{Usage}
+use Rattle.helios_top.specs.Ending.{RefusedOr}
 use Rattle.helios_top.specs.Inputs.{ReadsInput}
 use Rattle.helios_top.specs.Refusals.{form_refusal_of}
+use Rattle.helios_top.specs.Replays.{IsScheduleAnswer}
+use Rattle.helios_top.specs.Runs.Audit.{IsAuditAnswer}
 use Rattle.helios_top.specs.Runs.Check.{IsCheckAnswer}
 use Rattle.helios_top.specs.Runs.Plan.{IsPlanAnswer}
-use Rattle.helios_top.specs.Runs.Replay.{IsReplayAnswer}
+use Rattle.helios_top.specs.Runs.Trial.{IsTrialAnswer}
 
 -- what the command answers to bytes that it accepts
 abbrev pub IsAnswer : Command → Ending → List ℕ → Type 0
-IsAnswer Replay ending bytes = IsReplayAnswer ending bytes
+IsAnswer Replay ending bytes = IsScheduleAnswer told.Report ending bytes
+IsAnswer History ending bytes = IsScheduleAnswer told.History ending bytes
+IsAnswer (Trial number) ending bytes = IsTrialAnswer number ending
 IsAnswer Check ending bytes = IsCheckAnswer ending bytes
 IsAnswer Plan ending bytes = IsPlanAnswer ending bytes
+IsAnswer Audit ending bytes = IsAuditAnswer ending bytes
 
--- the end is the refusal, where there is one, and else an answer
-abbrev pub RefusedOr : Option Refusal → Ending → Type 0 → Type 0
-RefusedOr (Some refusal) ending Answers = ending ≡ Refused refusal
-RefusedOr None ending Answers = IsDone ending × Answers
-
--- the end over bytes that were read whole
+-- the end over what the command goes by
 abbrev pub EndsOver : Command → List ℕ → Ending → Type 0
 EndsOver command bytes ending = RefusedOr (form_refusal_of command bytes) ending (IsAnswer command ending bytes)
 

@@ -1,19 +1,20 @@
 -- The status and the text of each end of a run, and what is written of it.
-use Rattle.std.specs.Prelude.{◌≡◌, ℕ, ◌⊎◌, List, [], ◌∷◌, ◌++◌, codes, Result, Ok, Err}
+use Rattle.std.specs.Prelude.{◌≡◌, ℕ, ◌⊎◌, List, [], ◌∷◌, ◌++◌, codes, Option, Some, None, Result, Ok, Err}
 use Rattle.std.specs.declared.alloc.AllocError.{AllocError}
 use Rattle.std.specs.Io.KnownBytes.{Appends}
 use Rattle.commit_offsets.specs.Lines as plan
 use Rattle.rtt_matrix.specs.Lines as matrix
 use Rattle.schedule_text.specs.Lines as schedule
+use Rattle.history_audit.specs.Lines as history
 use Rattle.schedule_replay.specs.Refusals as steps
 use Rattle.outside_io.specs.Causes.{Rose}
 use Rattle.outside_io.specs.Seen.{SinkSeen}
 use Rattle.outside_io.specs.Whole.{AppendsPrefix}
 use Rattle.helios_top.specs.declared.ending.Refusal.{Refusal}
-use Rattle.helios_top.specs.declared.ending.Refusal.TheVariants.{OfMatrix, OfPlan, OfReplay, OfSchedule, TooLarge}
+use Rattle.helios_top.specs.declared.ending.Refusal.TheVariants.{OfHistory, OfMatrix, OfPlan, OfReplay, OfSchedule, TooLarge}
 use Rattle.helios_top.specs.declared.ending.Ending.{Ending}
-use Rattle.helios_top.specs.declared.ending.Ending.TheVariants.{Usage, ReadFault, NoMemory, Refused, Printed, Judged}
-use Rattle.helios_top.specs.Verdicts.{verdict_status, verdict_text}
+use Rattle.helios_top.specs.declared.ending.Ending.TheVariants.{Usage, ReadFault, NoMemory, Refused, Printed, Judged, Audited}
+use Rattle.helios_top.specs.Verdicts.{audit_line, audit_status, verdict_status, verdict_text}
 
 -- the text, and one line feed
 abbrev pub line : List ℕ → List ℕ
@@ -26,6 +27,7 @@ refusal_text (OfSchedule refusal) = schedule.refusal_text refusal
 refusal_text (OfReplay refusal) = steps.refusal_text refusal
 refusal_text (OfPlan refusal) = plan.refusal_text refusal
 refusal_text (OfMatrix refusal) = matrix.refusal_text refusal
+refusal_text (OfHistory refusal) = history.refusal_text refusal
 
 -- the exit status of each end
 abbrev pub status_of : Ending → ℕ
@@ -35,6 +37,7 @@ status_of NoMemory = 4
 status_of (Refused refusal) = 5
 status_of (Printed text) = 0
 status_of (Judged verdict) = verdict_status verdict
+status_of (Audited verdict) = audit_status verdict
 
 -- all that is written for each end
 unfoldable pub text_of : Ending → List ℕ
@@ -44,6 +47,7 @@ text_of NoMemory = line (codes "fault memory")
 text_of (Refused refusal) = line (codes "refused " ++ refusal_text refusal)
 text_of (Printed text) = text
 text_of (Judged verdict) = line (verdict_text verdict)
+text_of (Audited verdict) = audit_line verdict
 
 -- the end that a command's answer is: want of memory is an end too
 abbrev pub end_of : Result Ending AllocError → Ending
@@ -58,6 +62,12 @@ IsDone NoMemory = ⊥
 IsDone (Refused refusal) = ⊥
 IsDone (Printed text) = Unit {0}
 IsDone (Judged verdict) = Unit {0}
+IsDone (Audited verdict) = Unit {0}
+
+-- the end is the refusal, where there is one, and else an answer
+abbrev pub RefusedOr : Option Refusal → Ending → Type 0 → Type 0
+RefusedOr (Some refusal) ending Answers = ending ≡ Refused refusal
+RefusedOr None ending Answers = IsDone ending × Answers
 
 -- the text was written whole, and the status is the one that is due; or a write failed, a front of the text was written, and the
 -- status is 3

@@ -3,7 +3,7 @@ use Rattle.std.specs.Prelude.{◌≡◌, ◌≢◌, ℕ, ◌≤◌, ◌⊎◌, L
 use Rattle.std.specs.Io.KnownBytes.{Appends}
 use Rattle.outside_io.specs.Causes.{Rose}
 use Rattle.helios_top.specs.declared.words.Command.{Command}
-use Rattle.helios_top.specs.declared.words.Command.TheVariants.{Check, Plan, Replay}
+use Rattle.helios_top.specs.declared.words.Command.TheVariants.{Audit, Check, History, Plan, Replay, Trial}
 use Rattle.helios_top.specs.declared.ending.Refusal.{Refusal}
 use Rattle.helios_top.specs.declared.ending.Ending.{Ending}
 use Rattle.helios_top.specs.declared.ending.Ending.TheVariants.{Usage, ReadFault, NoMemory, Refused}
@@ -11,9 +11,12 @@ use Rattle.helios_top.specs.Benches.{BenchAfter}
 use Rattle.helios_top.specs.Ending.{Came, IsDone, line, refusal_text, text_of}
 use Rattle.helios_top.specs.Outside.{IsLater, Outside}
 use Rattle.helios_top.specs.Refusals.{refusal_of}
+use Rattle.helios_top.specs.Runs.Audit.{AuditRun}
 use Rattle.helios_top.specs.Runs.Check.{CheckRun}
+use Rattle.helios_top.specs.Runs.History.{HistoryRun}
 use Rattle.helios_top.specs.Runs.Plan.{PlanRun}
 use Rattle.helios_top.specs.Runs.Replay.{ReplayRun}
+use Rattle.helios_top.specs.Runs.Trial.{TrialRun}
 use Rattle.helios_top.specs.Words.{command_of}
 
 -- exactly this was written
@@ -46,11 +49,14 @@ pub record IsRun (words : List (List ℕ)) (before after : Outside) (status : �
       × IfSome before.input.left (λ bytes. refusal_of command bytes ≡ Some refusal) × Writes before after (line (codes "refused " ++ refusal_text refusal))
   pub refused_only : IfSome before.input.left (λ bytes. (command : Command) → command_of words ≡ Some command → (refusal : Refusal)
       → refusal_of command bytes ≡ Some refusal → (ending ≡ Refused refusal) ⊎ (ending ≡ ReadFault) ⊎ (ending ≡ NoMemory))
-  -- 9: the plan is not shown to be optimal
-  pub denied : status ≡ 9 → (command_of words ≡ Some Check) × Writes before after (text_of ending)
+  -- 9: the plan is not shown to be optimal, or the history is not serial
+  pub denied : status ≡ 9 → ((command_of words ≡ Some Check) ⊎ (command_of words ≡ Some Audit)) × Writes before after (text_of ending)
   -- the bench is left before anything is written: what it is goes by the true end, also at the statuses 3 and 4
   pub bench : BenchAfter (command_of words) before.input after.input before.bench after.bench ending
   -- each command
   pub replay : command_of words ≡ Some Replay → ReplayRun before after ending
+  pub history : command_of words ≡ Some History → HistoryRun before after ending
+  pub trial : (number : ℕ) → command_of words ≡ Some (Trial number) → TrialRun number before after ending
   pub check : command_of words ≡ Some Check → CheckRun before after ending
   pub plan : command_of words ≡ Some Plan → PlanRun before after ending
+  pub audit : command_of words ≡ Some Audit → AuditRun before after ending

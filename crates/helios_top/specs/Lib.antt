@@ -5,6 +5,8 @@ pub mod Inputs
 pub mod IsRun
 pub mod Outside
 pub mod Refusals
+pub mod Replays
 pub mod Runs
+pub mod Trials
 pub mod Verdicts
 pub mod Words

@@ -1,16 +1,18 @@
--- Why a command refuses an input, in the order of the ends of a run: its length first, then its form.
-use Rattle.std.specs.Prelude.{ℕ, List, length, nat_lt, Option, Some, None, option_map, Result, Ok, Err, if◌then◌else◌}
+-- Why a command refuses what it goes by, in the order of the ends of a run: the length of the input first, then its form.
+use Rattle.std.specs.Prelude.{Bool, true, false, not, ◌&&◌, ℕ, List, length, nat_lt, Option, Some, None, option_map, Result, Ok, Err, if◌then◌else◌}
 use Rattle.commit_offsets.specs.Reading.{plan_of_text}
+use Rattle.history_audit.specs.Reading.{history_of_text}
 use Rattle.rtt_matrix.specs.Reading.{matrix_of_text}
 use Rattle.schedule_text.specs.declared.refusal.ScheduleRefusal.{ScheduleRefusal}
 use Rattle.schedule_text.specs.declared.steps.Schedule.{Schedule}
 use Rattle.schedule_text.specs.Reading.{schedule_of_text}
 use Rattle.schedule_replay.specs.Refusals.{first_refusal}
 use Rattle.helios_top.specs.declared.words.Command.{Command}
-use Rattle.helios_top.specs.declared.words.Command.TheVariants.{Check, Plan, Replay}
+use Rattle.helios_top.specs.declared.words.Command.TheVariants.{Audit, Check, History, Plan, Replay, Trial}
 use Rattle.helios_top.specs.declared.ending.Refusal.{Refusal}
-use Rattle.helios_top.specs.declared.ending.Refusal.TheVariants.{OfMatrix, OfPlan, OfReplay, OfSchedule, TooLarge}
+use Rattle.helios_top.specs.declared.ending.Refusal.TheVariants.{OfHistory, OfMatrix, OfPlan, OfReplay, OfSchedule, TooLarge}
 use Rattle.helios_top.specs.Outside.{most_input_bytes}
+use Rattle.helios_top.specs.Trials.{trial_schedule}
 
 -- the refusal that a reader gave
 abbrev pub refusal_in : {T E : Type 0} → (E → Refusal) → Result T E → Option Refusal
@@ -26,12 +28,29 @@ abbrev pub replay_refusal_in : Result Schedule ScheduleRefusal → Option Refusa
 replay_refusal_in (Ok schedule) = replay_refusal schedule
 replay_refusal_in (Err e) = Some (OfSchedule e)
 
--- the first rule of the form that the command reads which the bytes break
+-- whether the command reads the input
+abbrev pub reads_input : Command → Bool
+reads_input Replay = true
+reads_input History = true
+reads_input (Trial number) = false
+reads_input Check = true
+reads_input Plan = true
+reads_input Audit = true
+
+-- whether a run of these words leaves the input as it is
+abbrev pub leaves_input : Option Command → Bool
+leaves_input None = true
+leaves_input (Some command) = not (reads_input command)
+
+-- the first rule of the form that the command reads which the bytes break; a trial reads none, and its own schedule may be refused
 abbrev pub form_refusal_of : Command → List ℕ → Option Refusal
 form_refusal_of Replay bytes = replay_refusal_in (schedule_of_text bytes)
+form_refusal_of History bytes = replay_refusal_in (schedule_of_text bytes)
+form_refusal_of (Trial number) bytes = replay_refusal (trial_schedule number)
 form_refusal_of Check bytes = refusal_in OfPlan (plan_of_text bytes)
 form_refusal_of Plan bytes = refusal_in OfMatrix (matrix_of_text bytes)
+form_refusal_of Audit bytes = refusal_in OfHistory (history_of_text bytes)
 
 -- why the command refuses the bytes; none where it accepts them
 abbrev pub refusal_of : Command → List ℕ → Option Refusal
-refusal_of command bytes = if nat_lt most_input_bytes (length bytes) then Some TooLarge else form_refusal_of command bytes
+refusal_of command bytes = if reads_input command && nat_lt most_input_bytes (length bytes) then Some TooLarge else form_refusal_of command bytes

@@ -1,9 +1,10 @@
-ghost use Rattle.std.specs.Prelude.{◌≡◌, Some, IfOk, string_bytes};
+ghost use Rattle.std.specs.Prelude.{◌≡◌, ◌++◌, Some, IfOk, string_bytes};
 ghost use Rattle.helios_top.specs.Ending.{refusal_text, status_of, text_of};
-ghost use Rattle.helios_top.specs.Verdicts.{verdict_status, verdict_text};
+ghost use Rattle.helios_top.specs.Verdicts.{audit_line, audit_status, stale_line, verdict_status, verdict_text};
 
 use commit_offsets::PlanRefusal;
-use helios_model::Bytes;
+use helios_model::{Bytes, Key, Version};
+use history_audit::{AuditVerdict, HistoryRefusal};
 use plan_certificate::Verdict;
 use rtt_matrix::MatrixRefusal;
 use schedule_replay::ReplayRefusal;
@@ -28,6 +29,8 @@ pub enum Refusal {
     OfPlan(PlanRefusal),
     /// The text of a matrix breaks a rule.
     OfMatrix(MatrixRefusal),
+    /// The text of a history breaks a rule.
+    OfHistory(HistoryRefusal),
 }
 
 /// How a run ends.
@@ -45,6 +48,8 @@ pub enum Ending {
     Printed(Bytes),
     /// The verdict on a plan.
     Judged(Verdict),
+    /// The verdict on a history.
+    Audited(AuditVerdict),
 }
 
 impl fmt::Display for Refusal {
@@ -57,6 +62,7 @@ impl fmt::Display for Refusal {
             Refusal::OfReplay(refusal) => write!(f, "{refusal}"),
             Refusal::OfPlan(refusal) => write!(f, "{refusal}"),
             Refusal::OfMatrix(refusal) => write!(f, "{refusal}"),
+            Refusal::OfHistory(refusal) => write!(f, "{refusal}"),
         }
     }
 }
@@ -67,6 +73,61 @@ fn verdict_status(verdict: &Verdict) -> u8
     match verdict {
         Verdict::Optimal(_) => 0,
         Verdict::Short(..) | Verdict::NoPairing(_) | Verdict::ValueDiffers(..) => 9,
+    }
+}
+
+fn audit_status(verdict: &AuditVerdict) -> u8
+    ensures { result ≡ audit_status verdict.now }
+{
+    match verdict {
+        AuditVerdict::Serial(_) => 0,
+        AuditVerdict::NotSerial { .. } => 9,
+    }
+}
+
+/// Three texts behind each other.
+pub(crate) fn joined(
+    alloc: Global,
+    first: &[u8],
+    second: &[u8],
+    third: &[u8],
+) -> Result<Bytes, AllocError>
+    ensures { IfOk result (λ text. text ≡ first.now ++ (second.now ++ third.now)) }
+{
+    let mut text = Vec::new(alloc);
+    text.extend_from_slice(first)?;
+    text.extend_from_slice(second)?;
+    text.extend_from_slice(third)?;
+    Ok(Bytes::new(text))
+}
+
+/// The line of a read of a key where another version was current, at the place of its transaction.
+fn stale_line(
+    alloc: Global,
+    place: u64,
+    key: &Key,
+    read: &Version,
+    current: &Version,
+) -> Result<Bytes, AllocError>
+    ensures { IfOk result (λ text. text ≡ stale_line place key.now read.now current.now) }
+{
+    let head = format!(in alloc; "not-serial {place} ")?;
+    let versions = format!(in alloc; " {read} {current}\n")?;
+    let text = joined(alloc, head.as_bytes(), key.items(), versions.as_bytes())?;
+    Ok(text)
+}
+
+fn audit_line(alloc: Global, verdict: &AuditVerdict) -> Result<Bytes, AllocError>
+    ensures { IfOk result (λ text. text ≡ audit_line verdict.now) }
+{
+    match verdict {
+        AuditVerdict::Serial(count) => Ok(text_from(format!(in alloc; "serial {count}\n")?)),
+        AuditVerdict::NotSerial {
+            place,
+            key,
+            read,
+            current,
+        } => stale_line(alloc, *place, key, read, current),
     }
 }
 
@@ -103,6 +164,7 @@ impl Ending {
             Ending::Refused(_) => 5,
             Ending::Printed(_) => 0,
             Ending::Judged(verdict) => verdict_status(verdict),
+            Ending::Audited(verdict) => audit_status(verdict),
         }
     }
 
@@ -121,6 +183,7 @@ impl Ending {
                 let verdict = VerdictText(verdict);
                 Ok(text_from(format!(in alloc; "{verdict}\n")?))
             }
+            Ending::Audited(verdict) => audit_line(alloc, &verdict),
         }
     }
 }

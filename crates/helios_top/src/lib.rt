@@ -3,14 +3,17 @@
 //! What a run does is the page specs/IsRun; what each command does has a page in specs/Runs.
 #![tactic(auto)]
 
+mod audit;
 mod check;
 mod ending;
 mod plan;
 mod replay;
 mod top;
+mod trial;
 mod words;
 
 pub use ending::{Ending, Refusal, Status};
+pub use replay::Told;
 pub use top::run;
 pub use words::Command;
 

@@ -1,4 +1,4 @@
-ghost use Rattle.std.specs.Prelude.{◌≡◌, ◌≢◌, ◌+◌, ◌≤◌, None, Some, IfOk};
+ghost use Rattle.std.specs.Prelude.{◌≡◌, ◌≢◌, ◌+◌, ◌≤◌, None, Some, IfOk, true};
 ghost use Rattle.outside_io.specs.Causes.{StaysTold};
 ghost use Rattle.outside_io.specs.Whole.{TakesAtMost};
 ghost use Rattle.helios_top.specs.declared.ending.Ending.{Ending};
@@ -8,17 +8,19 @@ ghost use Rattle.helios_top.specs.Ending.{Came, WroteText, end_of, text_of};
 ghost use Rattle.helios_top.specs.Inputs.{ReadsInput};
 ghost use Rattle.helios_top.specs.IsRun.{IsRun};
 ghost use Rattle.helios_top.specs.Outside.{Outside, most_input_bytes};
+ghost use Rattle.helios_top.specs.Refusals.{leaves_input, reads_input};
 ghost use Rattle.helios_top.specs.Words.{command_of, texts};
 
+use crate::replay::Told;
 use crate::words::read_words;
-use crate::{Command, Ending, INPUT_LIMIT, Refusal, Status, check, plan, replay};
+use crate::{Command, Ending, INPUT_LIMIT, Refusal, Status, audit, check, plan, replay, trial};
 use disk_store::Bench;
 use outside_io::{InputError, Sink, Source, read_whole, write_whole};
 use std::alloc::{AllocError, Global};
 
 /// Does what the words ask for, which are without the program's own name: reads the input, writes
 /// one text or one line, and gives the exit status. A replay runs its sites over the disks of the
-/// bench, which it makes empty first; all else leaves the bench as it is.
+/// bench, which it makes empty first; all else leaves the bench as it is. A trial reads no input.
 pub fn run<S: Source, K: Sink>(
     alloc: Global,
     words: &Vec<String>,
@@ -29,7 +31,7 @@ pub fn run<S: Source, K: Sink>(
     ensures run { let before : Outside = record { input = S.seen input.old; output = K.seen output.old; bench = bench.old } in
         let after : Outside = record { input = S.seen input.new; output = K.seen output.new; bench = bench.new } in
         IsRun (texts words.now.items) before after result.0 }
-    ensures unread { command_of (texts words.now.items) ≡ None → input.new ≡ input.old }
+    ensures unread { leaves_input (command_of (texts words.now.items)) ≡ true → input.new ≡ input.old }
 {
     let ending = ending_of(alloc, words, input, bench);
     let status = write_ending(alloc, output, ending);
@@ -44,7 +46,7 @@ fn ending_of<S: Source>(
     input: &mut S,
     bench: &mut Bench,
 ) -> Ending
-    ensures unread { command_of (texts words.now.items) ≡ None → input.new ≡ input.old }
+    ensures unread { leaves_input (command_of (texts words.now.items)) ≡ true → input.new ≡ input.old }
     ensures ends { EndsBy (command_of (texts words.now.items)) (S.seen input.old) (S.seen input.new) result }
     ensures leaves { BenchAfter (command_of (texts words.now.items)) (S.seen input.old) (S.seen input.new) bench.old bench.new result }
     ensures steady { result ≢ Ending.ReadFault → (S.seen input.new).faults ≡ (S.seen input.old).faults }
@@ -54,7 +56,30 @@ fn ending_of<S: Source>(
 {
     match read_words(words) {
         None => Ending::Usage,
-        Some(command) => read_and_answer(alloc, command, input, bench),
+        Some(command) => ending_of_command(alloc, command, input, bench),
+    }
+}
+
+/// The end of a command.
+#[tactic(auto, using(crate::proofs::Inputs::takes_nothing, crate::proofs::Inputs::answers_unread, crate::proofs::Benches::bench_unread))]
+fn ending_of_command<S: Source>(
+    alloc: Global,
+    command: Command,
+    input: &mut S,
+    bench: &mut Bench,
+) -> Ending
+    ensures unread { leaves_input (Some command) ≡ true → input.new ≡ input.old }
+    ensures ends { ReadsInput command (S.seen input.old) (S.seen input.new) result (IsAnswer command result) }
+    ensures leaves { Leaves command (S.seen input.old) (S.seen input.new) bench.old bench.new result }
+    ensures steady { result ≢ Ending.ReadFault → (S.seen input.new).faults ≡ (S.seen input.old).faults }
+    ensures tells { StaysTold (S.seen input.old).left (S.seen input.new).left }
+    ensures later { (S.seen input.old).faults ≤ (S.seen input.new).faults }
+    ensures most { TakesAtMost (most_input_bytes + 1) (S.seen input.old).left (S.seen input.new).left }
+{
+    if command.reads_input() {
+        read_and_answer(alloc, command, input, bench)
+    } else {
+        answered(answer(alloc, command, &[], bench))
     }
 }
 
@@ -66,6 +91,7 @@ fn read_and_answer<S: Source>(
     input: &mut S,
     bench: &mut Bench,
 ) -> Ending
+    requires { reads_input command ≡ true }
     ensures ends { ReadsInput command (S.seen input.old) (S.seen input.new) result (IsAnswer command result) }
     ensures leaves { Leaves command (S.seen input.old) (S.seen input.new) bench.old bench.new result }
     ensures steady { result ≢ Ending.ReadFault → (S.seen input.new).faults ≡ (S.seen input.old).faults }
@@ -90,7 +116,7 @@ fn answered(answer: Result<Ending, AllocError>) -> Ending
     }
 }
 
-/// The end of a command over its whole input.
+/// The end of a command over what it goes by: its whole input, or nothing.
 fn answer(
     alloc: Global,
     command: Command,
@@ -101,9 +127,12 @@ fn answer(
     ensures leaves { LeavesOver command input.now bench.old bench.new (end_of result) }
 {
     match command {
-        Command::Replay => replay::answer(alloc, input, bench),
+        Command::Replay => replay::answer(alloc, Told::Report, input, bench),
+        Command::History => replay::answer(alloc, Told::History, input, bench),
+        Command::Trial(number) => trial::answer(alloc, number, bench),
         Command::Check => check::answer(alloc, input),
         Command::Plan => plan::answer(alloc, input),
+        Command::Audit => audit::answer(alloc, input),
     }
 }
 

@@ -5,6 +5,8 @@
 #[cfg(test)]
 mod benches;
 #[cfg(test)]
+mod histories;
+#[cfg(test)]
 mod inputs;
 #[cfg(test)]
 mod limits;

@@ -76,10 +76,23 @@ pub(crate) fn outcome_of(
 
 #[test]
 fn takes_its_words_and_no_others(rt: HostRuntime) -> Result<(), Fail> {
-    let cases: [(&[&str], u8, &str); 5] = [
+    let cases: [(&[&str], u8, &str); 18] = [
         (&["replay"], 0, REPORT),
+        (&["replay", "--history"], 0, "[]\n"),
         (&[], 1, USAGE),
         (&["replay", "x"], 1, USAGE),
+        (&["replay", "--history", "x"], 1, USAGE),
+        (&["--history", "replay"], 1, USAGE),
+        (&["check", "--history"], 1, USAGE),
+        (&["audit", "x"], 1, USAGE),
+        (&["history"], 1, USAGE),
+        (&["trial"], 1, USAGE),
+        (&["trial", ""], 1, USAGE),
+        (&["trial", "01"], 1, USAGE),
+        (&["trial", "-1"], 1, USAGE),
+        (&["trial", "+1"], 1, USAGE),
+        (&["trial", "18446744073709551616"], 1, USAGE),
+        (&["trial", "1", "2"], 1, USAGE),
         (&["Replay"], 1, USAGE),
         (&["--help"], 1, USAGE),
     ];

@@ -1,4 +1,5 @@
 -- The end that the input came to, and what was written of it, are a run.
+use Rattle.std.proofs.Common.{ap}
 use Rattle.helios_top.specs.Words.{texts}
 use Rattle.helios_top.proofs.Runs.{is_run}
 use Rattle.helios_top.proofs.top.run.Goals as goal
@@ -15,4 +16,4 @@ returns-clause-run g c =
       most_input = c.ending_of-ending.ensures.most;
       tells_output = c.write_ending-status.ensures.tells;
       later_output = c.write_ending-status.ensures.later;
-    }) c.ending_of-ending.ensures.leaves
+    }) c.ending_of-ending.ensures.leaves (λ left. ap g.S.Source.seen (c.ending_of-ending.ensures.unread left))
