@@ -1,6 +1,5 @@
 pub mod Clearing
 pub mod Fill
-pub mod Over
 pub mod Records
 pub mod Torn
 pub mod Windows

@@ -1,5 +1,5 @@
 // Writes into a `Vec` at a place up to its end, within the memory that it has.
-ghost use Rattle.std.specs.Prelude.{◌≡◌, ◌+◌, ◌≤◌, ◌<◌, ◌∷◌, [], length, replicate, vec_len, vec_capacity};
+ghost use Rattle.std.specs.Prelude.{◌≡◌, ◌+◌, ◌-◌, ◌≤◌, ◌++◌, length, replicate, vec_len, vec_capacity};
 ghost use Rattle.disk_store.specs.Disk.{over};
 
 /// Puts these bytes over those from a place on, and past the end.
@@ -15,30 +15,32 @@ pub(crate) fn put_bytes(cells: &mut Vec<u8>, at: usize, from: &[u8])
     cells.extend_from_slice(back).unwrap();
 }
 
-/// Marks one place, at most one behind the last, as written or not.
-#[tactic(auto, using(crate::proofs::Over::over_place))]
-fn mark_place(marks: &mut Vec<bool>, place: usize, written: bool)
-    requires place { place ≤ vec_len marks.old }
-    requires room { place < vec_capacity marks.old }
-    ensures items { marks.new.items ≡ over place (written ∷ []) marks.old.items }
+/// Fills marks up to a length.
+fn reach(marks: &mut Vec<bool>, end: usize, written: bool)
+    requires { end ≤ vec_capacity marks.old }
+    ensures items { marks.new.items ≡ marks.old.items ++ replicate (end - length marks.old.items) written }
+    ensures reached { end ≤ vec_len marks.new }
     ensures room { vec_capacity marks.old ≤ vec_capacity marks.new }
 {
-    if place < marks.len() {
-        marks[place] = written;
-    } else {
-        marks.push(written).unwrap();
-    }
+    let len = marks.len();
+    marks.resize(end.max(len), written).unwrap();
+}
+
+/// Marks places that are there.
+fn mark_each(marks: &mut [bool], at: usize, size: usize, written: bool)
+    requires { at + size ≤ length marks.old }
+    ensures { marks.new ≡ over at (replicate size written) marks.old }
+{
+    marks[at..at + size].fill(written);
 }
 
 /// Marks the places of a range as written or not.
-#[tactic(auto, using(crate::proofs::Over::marked_more))]
 pub(crate) fn mark(marks: &mut Vec<bool>, at: usize, size: usize, written: bool)
     requires place { at ≤ vec_len marks.old }
     requires room { at + size ≤ vec_capacity marks.old }
     ensures items { marks.new.items ≡ over at (replicate size written) marks.old.items }
     ensures room { vec_capacity marks.old ≤ vec_capacity marks.new }
 {
-    for place in at..at + size {
-        mark_place(marks, place, written);
-    }
+    reach(marks, at + size, written);
+    mark_each(marks, at, size, written);
 }
