@@ -1,6 +1,6 @@
 -- Messages. A body is a byte for the number of sites, from 2 to 32; one for the sender and one for another site; the times of the
 -- table and of the cover; and a byte for the number of records, from 0 to 64, and each in turn. A message is a body and its digest.
-use Rattle.std.specs.Prelude.{ℕ, ◌-◌, ◌*◌, ◌==◌, ◌&&◌, ◌||◌, Bool, true, not, List, [], ◌∷◌, ◌++◌, length, take, slice_index, Result, Ok, Err, nat_le, nat_lt, if◌then◌else◌}
+use Rattle.std.specs.Prelude.{◌≡◌, ℕ, ◌-◌, ◌*◌, ◌<◌, ◌==◌, ◌&&◌, ◌||◌, Bool, true, not, List, [], ◌∷◌, ◌++◌, length, take, slice_index, slice_index_or, Option, None, Some, Result, Ok, Err, nat_le, nat_lt, if◌then◌else◌}
 use Rattle.std.specs.Int.{w64, to_be_bytes}
 use Rattle.std.specs.List.{flat_map, list_all}
 use Rattle.sha2.specs.Sha256.{sha256}
@@ -48,6 +48,15 @@ times_at n whole bytes = each_after (λ before. number_at w64 (is_within 0 last_
 -- an own time is above those of the records of the same origin
 abbrev pub is_later : List Record → ℕ → ℕ → Bool
 is_later before site time = list_all (λ r. not (origin r == site) || nat_lt (own_time r) time) before
+
+-- a time is above the last one, where there is one
+abbrev pub is_past : Option ℕ → ℕ → Bool
+is_past None time = true
+is_past (Some last) time = nat_lt last time
+
+-- for each site the own time of its last record among these, where there is one
+abbrev pub AreLatest : List Record → List (Option ℕ) → Type 0
+AreLatest before times = (site time : ℕ) → site < most_sites → is_later before site time ≡ is_past (slice_index_or times site None) time
 
 -- a record may stand behind others: it is later than each of its origin, and not above the cover
 abbrev pub may_follow : List ℕ → List Record → Record → Bool

@@ -9,6 +9,7 @@ mod entries;
 mod faults;
 mod given;
 mod heads;
+mod latest;
 mod laws;
 mod lengths;
 mod messages;

@@ -1,5 +1,6 @@
 //! Messages: the one spelling of each, and their reader.
-ghost use Rattle.std.specs.Prelude.{◌≡◌, ◌≤◌, ◌<◌, ◌++◌, [], length, OnOk, IfOk};
+ghost use Rattle.std.specs.Prelude.{◌≡◌, ◌≤◌, ◌<◌, ◌++◌, [], ◌∷◌, List, length, OnOk, IfOk};
+ghost use Rattle.helios_model.specs.declared.records.Record.{Record};
 ghost use Rattle.helios_model.specs.Limits.{most_records, most_sites};
 ghost use Rattle.helios_model.specs.Log.{origin};
 ghost use Rattle.sha2.specs.Sha256.{sha256};
@@ -7,16 +8,17 @@ ghost use Rattle.helios_model.specs.Spellable.{IsSpellableMessage};
 ghost use Rattle.log_records.specs.Decoding.{Decodes, Takes, TakesAs};
 ghost use Rattle.log_records.specs.Fields.{each_after};
 ghost use Rattle.log_records.specs.Items.{list_bytes};
-ghost use Rattle.log_records.specs.Messages.{body_at, body_bytes, digest_at, is_later, may_follow, message_at, message_bytes, next_at, other_at, records_at, route_at, times_at, times_bytes};
+ghost use Rattle.log_records.specs.Messages.{AreLatest, body_at, body_bytes, digest_at, may_follow, message_at, message_bytes, next_at, other_at, records_at, route_at, times_at, times_bytes};
 ghost use Rattle.log_records.specs.Records.{record_bytes};
 
 use crate::decoder::Decoder;
 use crate::encoding::put_record;
 use crate::faults::DecodeFault;
+use crate::latest::Latest;
 use crate::lengths::message_length;
 use crate::route::Route;
 use helios_model::{
-    Bytes, LAST_TIME, MOST_RECORDS, MOST_SITES, Message, Record, Records, SiteId, Time, Times,
+    Bytes, LAST_TIME, MOST_RECORDS, MOST_SITES, Message, Record, Records, SiteId, Times,
 };
 use sha2::{Digest, Sha256};
 use std::alloc::{AllocError, Global};
@@ -74,23 +76,14 @@ pub fn encode_message(alloc: Global, m: &Message) -> Result<Bytes, AllocError>
     Ok(Bytes::new(out))
 }
 
-/// Whether a time is above the own times of the records of this origin.
-fn is_later(before: &[Record], site: SiteId, time: Time) -> bool
-    ensures { result ≡ is_later before.now site time }
-{
-    before
-        .iter()
-        .all(|r| r.origin() != site || r.own_time() < time)
-}
-
 /// Whether a record may stand behind others.
-fn may_follow(cover: &[u64], before: &[Record], r: &Record) -> bool
+fn may_follow(cover: &[u64], latest: &Latest, r: &Record) -> bool
     requires { origin r.now < length cover.now }
-    ensures { result ≡ may_follow cover.now before.now r.now }
+    ensures { (before : List Record) → AreLatest before latest.now.times → result ≡ may_follow cover.now before r.now }
 {
     let origin = r.origin();
     let time = r.own_time();
-    is_later(before, origin, time) && time.half_micros() <= cover[origin.number() as usize]
+    latest.is_below(origin, time) && time.half_micros() <= cover[origin.number() as usize]
 }
 
 impl Decoder<'_> {
@@ -137,24 +130,26 @@ impl Decoder<'_> {
         Ok(Times::new(times))
     }
 
-    /// A record behind others.
+    /// A record behind others, of which the last of each origin are noted; it is noted too.
     #[tactic(auto, unfolding(crate::specs::Messages::next_at))]
     fn next(
         &mut self,
         alloc: Global,
         count: u8,
         cover: &[u64],
-        before: &[Record],
+        latest: &mut Latest,
     ) -> Result<Record, DecodeFault>
         requires few { count ≤ most_sites }
         requires covered { length cover.now ≡ count }
-        ensures { Takes result (next_at count cover.now self.old.whole before.now self.old.rest.now) self.old self.new }
+        ensures taken { (before : List Record) → AreLatest before latest.old.times → Takes result (next_at count cover.now self.old.whole before self.old.rest.now) self.old self.new }
+        ensures noted { IfOk result (λ r. (before : List Record) → AreLatest before latest.old.times → AreLatest (before ++ r ∷ []) latest.new.times) }
     {
         let at = self.place();
         let record = self.record(alloc, count)?;
-        if !may_follow(cover, before, &record) {
+        if !may_follow(cover, latest, &record) {
             return Err(DecodeFault::Bad { at });
         }
+        latest.note(&record);
         Ok(record)
     }
 
@@ -169,9 +164,10 @@ impl Decoder<'_> {
         requires covered { length cover.now ≡ count }
         ensures { TakesAs (λ v. v.items) result (each_after (next_at count cover.now self.old.whole) many [] self.old.rest.now) self.old self.new }
     {
+        let mut latest = Latest::new();
         let mut records = Vec::with_capacity(alloc, many as usize)?;
         for _ in 0..many {
-            let record = self.next(alloc, count, cover, records.as_slice())?;
+            let record = self.next(alloc, count, cover, &mut latest)?;
             records.push(record)?;
         }
         Ok(records)
