@@ -117,7 +117,7 @@ fn run_stopped(
     each_sent_is_message();
     let Opened { host, last, .. } = stop_batch(alloc, plan, host, entries, stop, disk)?;
     let are_new = is_kept(stop);
-    output.tell_stopped(alloc, number, site, are_new)?;
+    output.tell_stopped(number, site, are_new)?;
     Ok(Taken {
         host,
         commits: last,

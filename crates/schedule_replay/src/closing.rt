@@ -16,18 +16,17 @@ use commit_rules::Summary;
 use helios_model::{CommitEvent, Plan, Time};
 use node_host::Host;
 use protocol_laws::batch_moves_one_node;
-use std::alloc::{AllocError, Global};
+use std::alloc::AllocError;
 
 #[tactic(auto, using(crate::proofs::Rests::commit_lines_drop))]
 pub(crate) fn push_commit_lines(
-    alloc: Global,
     text: &mut Vec<u8>,
     commits: &[CommitEvent],
 ) -> Result<(), AllocError>
     ensures { OnOk result (text.new.items ≡ text.old.items ++ flat_map commit_line commits.now) }
 {
     for commit in commits {
-        push_commit_line(alloc, text, commit)?;
+        push_commit_line(text, commit)?;
     }
     Ok(())
 }
@@ -49,7 +48,6 @@ fn summary_of(held: &Option<Host>) -> Summary
 
 /// Adds what each site has come to.
 pub(crate) fn push_site_lines(
-    alloc: Global,
     text: &mut Vec<u8>,
     plan: &Plan,
     hosts: &[Option<Host>],
@@ -60,7 +58,7 @@ pub(crate) fn push_site_lines(
 {
     batch_moves_one_node();
     for site in 0..plan.count() {
-        push_site_line(alloc, text, site, summary_of(&hosts[site as usize]))?;
+        push_site_line(text, site, summary_of(&hosts[site as usize]))?;
     }
     Ok(())
 }

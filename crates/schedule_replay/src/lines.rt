@@ -1,10 +1,11 @@
 //! The lines of a report.
 ghost use Rattle.std.specs.Prelude.{◌≡◌, ◌++◌, OnOk, length, codes, decimal, if◌then◌else◌};
 ghost use Rattle.schedule_replay.specs.Report.{commit_line, is_refusal, reply_text, site_text, state_text, step_line, value_text};
-ghost use Rattle.helios_model.specs.Ids.{version_text};
+ghost use Rattle.helios_model.specs.Ids.{id_text, version_text};
 
 use commit_rules::Summary;
-use helios_model::{CommitEvent, Key, Message, Reply, SiteId, State, Val, Version};
+use helios_model::{CommitEvent, Key, Message, Reply, SiteId, State, TxnId, Val, Version};
+use itoa::Buffer;
 use std::alloc::{AllocError, Global};
 
 pub(crate) fn is_refusal(reply: &Reply) -> bool
@@ -21,6 +22,47 @@ pub(crate) fn is_refusal(reply: &Reply) -> bool
         Reply::Taken => false,
         Reply::ClockSpent => false,
         Reply::PoolFull => false,
+    }
+}
+
+/// Adds a number in decimal.
+fn push_number(text: &mut Vec<u8>, number: u64) -> Result<(), AllocError>
+    ensures { OnOk result (text.new.items ≡ text.old.items ++ decimal number) }
+{
+    let mut digits = Buffer::new();
+    text.extend_from_slice(digits.format(number).as_bytes())
+}
+
+/// Adds these words, and a number behind them.
+fn push_words(text: &mut Vec<u8>, words: &[u8], number: u64) -> Result<(), AllocError>
+    ensures { OnOk result (text.new.items ≡ text.old.items ++ (words.now ++ decimal number)) }
+{
+    text.extend_from_slice(words)?;
+    push_number(text, number)
+}
+
+fn push_id(text: &mut Vec<u8>, id: &TxnId) -> Result<(), AllocError>
+    ensures { OnOk result (text.new.items ≡ text.old.items ++ id_text id.now) }
+{
+    push_number(text, u64::from(id.site.number()))?;
+    text.extend_from_slice(b"@")?;
+    push_number(text, id.time.half_micros())
+}
+
+/// Adds these words, and an id behind them.
+fn push_named(text: &mut Vec<u8>, words: &[u8], id: &TxnId) -> Result<(), AllocError>
+    ensures { OnOk result (text.new.items ≡ text.old.items ++ (words.now ++ id_text id.now)) }
+{
+    text.extend_from_slice(words)?;
+    push_id(text, id)
+}
+
+fn push_version(text: &mut Vec<u8>, version: &Version) -> Result<(), AllocError>
+    ensures { OnOk result (text.new.items ≡ text.old.items ++ version_text version.now) }
+{
+    match version {
+        Version::Initial => text.extend_from_slice(b"initial"),
+        Version::Of(id) => push_id(text, id),
     }
 }
 
@@ -69,35 +111,29 @@ fn push_value(
 ) -> Result<(), AllocError>
     ensures { OnOk result (text.new.items ≡ text.old.items ++ (codes "value " ++ version_text version.now ++ codes " " ++ value_text value.now)) }
 {
-    let head = format!(in alloc; "value {version} ")?;
-    text.extend_from_slice(head.as_bytes())?;
+    text.extend_from_slice(b"value ")?;
+    push_version(text, version)?;
+    text.extend_from_slice(b" ")?;
     push_bytes(alloc, text, value.items())
 }
 
-fn push_state(alloc: Global, text: &mut Vec<u8>, state: &State) -> Result<(), AllocError>
+fn push_state(text: &mut Vec<u8>, state: &State) -> Result<(), AllocError>
     ensures { OnOk result (text.new.items ≡ text.old.items ++ state_text state.now) }
 {
     match state {
         State::Pending => text.extend_from_slice(b"state pending"),
         State::Committed => text.extend_from_slice(b"state committed"),
-        State::Aborted(cause) => text.extend_from_slice(format!(in alloc;
-            "state aborted {cause}"
-        )?.as_bytes()),
+        State::Aborted(cause) => push_named(text, b"state aborted ", cause),
         State::Unknown => text.extend_from_slice(b"state unknown"),
     }
 }
 
-fn push_sent(
-    alloc: Global,
-    text: &mut Vec<u8>,
-    released: usize,
-    m: &Message,
-) -> Result<(), AllocError>
+fn push_sent(text: &mut Vec<u8>, released: usize, m: &Message) -> Result<(), AllocError>
     ensures { OnOk result (text.new.items ≡ text.old.items ++ (codes "sent " ++ decimal released ++ codes " " ++ decimal (length m.now.records))) }
 {
     let length = m.records.items().len();
-    let line = format!(in alloc; "sent {released} {length}")?;
-    text.extend_from_slice(line.as_bytes())
+    push_words(text, b"sent ", released as u64)?;
+    push_words(text, b" ", length as u64)
 }
 
 /// Adds a reply, before which so many messages were released.
@@ -110,31 +146,26 @@ fn push_reply(
     ensures { OnOk result (text.new.items ≡ text.old.items ++ reply_text released reply.now) }
 {
     match reply {
-        Reply::Prepared(id) => text.extend_from_slice(format!(in alloc;
-            "prepared {id}"
-        )?.as_bytes()),
-        Reply::Committed(id) => text.extend_from_slice(format!(in alloc;
-            "committed {id}"
-        )?.as_bytes()),
+        Reply::Prepared(id) => push_named(text, b"prepared ", id),
+        Reply::Committed(id) => push_named(text, b"committed ", id),
         Reply::Overwritten { key, current } => push_overwritten(alloc, text, key, current),
-        Reply::Conflict(id) => text.extend_from_slice(format!(in alloc;
-            "conflict {id}"
-        )?.as_bytes()),
+        Reply::Conflict(id) => push_named(text, b"conflict ", id),
         Reply::Value { version, value } => push_value(alloc, text, version, value),
-        Reply::State(state) => push_state(alloc, text, state),
-        Reply::Sent(m) => push_sent(alloc, text, released, m),
+        Reply::State(state) => push_state(text, state),
+        Reply::Sent(m) => push_sent(text, released, m),
         Reply::Taken => text.extend_from_slice(b"taken"),
         Reply::ClockSpent => text.extend_from_slice(b"clock-spent"),
         Reply::PoolFull => text.extend_from_slice(b"pool-full"),
     }
 }
 
-fn push_head(alloc: Global, text: &mut Vec<u8>, number: u64, site: SiteId) -> Result<(), AllocError>
+fn push_head(text: &mut Vec<u8>, number: u64, site: SiteId) -> Result<(), AllocError>
     ensures { OnOk result (text.new.items ≡ text.old.items ++ (decimal number ++ codes " " ++ decimal site ++ codes " ")) }
 {
-    let site = site.number();
-    let head = format!(in alloc; "{number} {site} ")?;
-    text.extend_from_slice(head.as_bytes())
+    push_number(text, number)?;
+    text.extend_from_slice(b" ")?;
+    push_number(text, u64::from(site.number()))?;
+    text.extend_from_slice(b" ")
 }
 
 /// Adds the line of a reply to a step, before which so many messages were released.
@@ -148,7 +179,7 @@ pub(crate) fn push_reply_line(
 ) -> Result<(), AllocError>
     ensures { OnOk result (text.new.items ≡ text.old.items ++ step_line number site (reply_text released reply.now)) }
 {
-    push_head(alloc, text, number, site)?;
+    push_head(text, number, site)?;
     push_reply(alloc, text, released, reply)?;
     text.extend_from_slice(b"\n")?;
     Ok(())
@@ -156,14 +187,13 @@ pub(crate) fn push_reply_line(
 
 /// Adds the line of a restart.
 pub(crate) fn push_restart_line(
-    alloc: Global,
     text: &mut Vec<u8>,
     number: u64,
     site: SiteId,
 ) -> Result<(), AllocError>
     ensures { OnOk result (text.new.items ≡ text.old.items ++ step_line number site (codes "restarted")) }
 {
-    push_head(alloc, text, number, site)?;
+    push_head(text, number, site)?;
     text.extend_from_slice(b"restarted")?;
     text.extend_from_slice(b"\n")?;
     Ok(())
@@ -171,7 +201,6 @@ pub(crate) fn push_restart_line(
 
 /// Adds the line of a stopped batch.
 pub(crate) fn push_stopped_line(
-    alloc: Global,
     text: &mut Vec<u8>,
     number: u64,
     site: SiteId,
@@ -179,7 +208,7 @@ pub(crate) fn push_stopped_line(
 ) -> Result<(), AllocError>
     ensures { OnOk result (text.new.items ≡ text.old.items ++ step_line number site (if is_kept then codes "kept" else codes "lost")) }
 {
-    push_head(alloc, text, number, site)?;
+    push_head(text, number, site)?;
     if is_kept {
         text.extend_from_slice(b"kept\n")?;
     } else {
@@ -188,21 +217,15 @@ pub(crate) fn push_stopped_line(
     Ok(())
 }
 
-pub(crate) fn push_commit_line(
-    alloc: Global,
-    text: &mut Vec<u8>,
-    commit: &CommitEvent,
-) -> Result<(), AllocError>
+pub(crate) fn push_commit_line(text: &mut Vec<u8>, commit: &CommitEvent) -> Result<(), AllocError>
     ensures { OnOk result (text.new.items ≡ text.old.items ++ commit_line commit.now) }
 {
-    let id = commit.prepare.id();
-    let line = format!(in alloc; "commit {id}\n")?;
-    text.extend_from_slice(line.as_bytes())
+    push_named(text, b"commit ", &commit.prepare.id())?;
+    text.extend_from_slice(b"\n")
 }
 
 /// Adds what a site has come to.
 pub(crate) fn push_site_line(
-    alloc: Global,
     text: &mut Vec<u8>,
     site: u8,
     summary: Summary,
@@ -210,7 +233,9 @@ pub(crate) fn push_site_line(
     ensures { OnOk result (text.new.items ≡ text.old.items ++ site_text site summary.time summary.log summary.pending) }
 {
     let Summary { time, log, pending } = summary;
-    let time = time.half_micros();
-    let line = format!(in alloc; "site {site} time {time} log {log} pending {pending}\n")?;
-    text.extend_from_slice(line.as_bytes())
+    push_words(text, b"site ", u64::from(site))?;
+    push_words(text, b" time ", time.half_micros())?;
+    push_words(text, b" log ", log)?;
+    push_words(text, b" pending ", pending)?;
+    text.extend_from_slice(b"\n")
 }

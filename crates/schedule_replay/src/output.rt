@@ -92,7 +92,6 @@ impl Output {
     /// Adds the line of a stopped batch.
     pub(crate) fn tell_stopped(
         &mut self,
-        alloc: Global,
         number: u64,
         site: SiteId,
         is_kept: bool,
@@ -100,22 +99,17 @@ impl Output {
         ensures { OnOk result (HasAdded self.old (step_line number site (if is_kept then codes "kept" else codes "lost")) self.new) }
     {
         let start = self.length();
-        push_stopped_line(alloc, &mut self.text, number, site, is_kept)?;
+        push_stopped_line(&mut self.text, number, site, is_kept)?;
         self.count(self.length() - start);
         Ok(())
     }
 
     /// Adds the line of a restart.
-    pub(crate) fn tell_restart(
-        &mut self,
-        alloc: Global,
-        number: u64,
-        site: SiteId,
-    ) -> Result<(), AllocError>
+    pub(crate) fn tell_restart(&mut self, number: u64, site: SiteId) -> Result<(), AllocError>
         ensures { OnOk result (HasAdded self.old (step_line number site (codes "restarted")) self.new) }
     {
         let start = self.length();
-        push_restart_line(alloc, &mut self.text, number, site)?;
+        push_restart_line(&mut self.text, number, site)?;
         self.count(self.length() - start);
         Ok(())
     }

@@ -44,7 +44,7 @@ fn restart(
 {
     drop(held);
     let Opened { host, last, .. } = restart_seat(alloc, plan, site, stop, disk)?;
-    output.tell_restart(alloc, number, site)?;
+    output.tell_restart(number, site)?;
     Ok(Taken {
         host,
         commits: last,

@@ -154,7 +154,7 @@ impl Walk {
     }
 
     /// The report of the steps that were taken.
-    pub fn end(self, alloc: Global) -> Result<Report, AllocError>
+    pub fn end(self, _alloc: Global) -> Result<Report, AllocError>
         ensures report { IfOk result (λ report. (steps : List Step) (bench : List MemState) → IsWalkAt self.plan steps self bench → IsReport self.plan steps report) }
     {
         let Walk {
@@ -169,8 +169,8 @@ impl Walk {
             refusals,
             ..
         } = output;
-        push_commit_lines(alloc, &mut text, commits.as_slice())?;
-        push_site_lines(alloc, &mut text, &plan, hosts.as_slice())?;
+        push_commit_lines(&mut text, commits.as_slice())?;
+        push_site_lines(&mut text, &plan, hosts.as_slice())?;
         Ok(Report {
             text: Bytes::new(text),
             commits: Commits::new(commits),
