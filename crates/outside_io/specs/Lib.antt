@@ -1,4 +1,9 @@
 pub mod Causes
+pub mod Clock
+pub mod Laws
 pub mod Memory
+pub mod MemoryNet
+pub mod Net
 pub mod Seen
+pub mod System
 pub mod Whole

@@ -61,7 +61,7 @@ impl<'a, R: Input> Source for StdSource<'a, R> {
 }
 
 /// Reads, and again where a signal came between; `None` where the read failed.
-fn read_once<R: Read>(reader: &mut R, into: &mut [u8]) -> Option<usize>
+pub(crate) fn read_once<R: Read>(reader: &mut R, into: &mut [u8]) -> Option<usize>
     ensures { IfSome result (λ n. n ≤ length into.new) }
 {
     for _ in 0..u64::MAX {

@@ -47,7 +47,7 @@ impl UnreadBytes {
 
 /// Copies the front of one slice over the front of the other, `most` bytes or as many as both
 /// have, and says how many.
-fn copy_front(from: &[u8], into: &mut [u8], most: usize) -> usize
+pub(crate) fn copy_front(from: &[u8], into: &mut [u8], most: usize) -> usize
     ensures amount { result ≡ min most (min (length into.old) (length from.now)) }
     ensures copied { into.new ≡ take result from.now ++ drop result into.old }
 {

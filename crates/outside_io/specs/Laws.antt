@@ -1,0 +1,3 @@
+-- Proved facts on the definitions, for the proofs of the crates above.
+pub mod Readings
+pub mod Talks
