@@ -1,0 +1,6 @@
+pub mod Faults
+pub mod Framing
+pub mod Asked
+pub mod Decoding
+pub mod Frames
+pub mod FrameReading
