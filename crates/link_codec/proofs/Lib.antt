@@ -6,3 +6,7 @@ pub mod Moves
 pub mod Asks
 pub mod WholeBodies
 pub mod FrameBodies
+pub mod AnswerBodies
+pub mod Starts
+pub mod Inputs
+pub mod BodyLengths

@@ -4,3 +4,5 @@ pub mod Asked
 pub mod Decoding
 pub mod Frames
 pub mod FrameReading
+pub mod Answers
+pub mod AnswerReading

@@ -1,0 +1,10 @@
+use Rattle.link_codec.specs.Answers.{IsAnswerBody, answer_table}
+use Rattle.link_codec.specs.Frames.{IsFrameBody, frame_table}
+use Rattle.link_codec.proofs.Inputs.{stays_bad}
+use Rattle.link_codec.proofs.laws.what_is_bad_stays_bad.Goals as goal
+
+pub returns-clause-frames : goal.returns-clause-frames
+returns-clause-frames c = stays_bad frame_table IsFrameBody
+
+pub returns-clause-answers : goal.returns-clause-answers
+returns-clause-answers c = stays_bad answer_table IsAnswerBody
