@@ -19,7 +19,7 @@ use Rattle.helios_model.specs.declared.ids.Version.TheVariants.{Initial, Of}
 use Rattle.helios_model.specs.declared.messages.Message.{Message}
 use Rattle.helios_model.specs.Limits.{most_inputs}
 use Rattle.helios_model.specs.Spellable.{IsSpellableInput, IsSpellableMessage, IsSpellableReply}
-use Rattle.helios_model.specs.Texts.{IsKey, IsValue}
+use Rattle.helios_model.specs.Texts.{IsValue}
 use Rattle.log_records.specs.Entries.{batch_bytes, entry_bytes, input_bytes}
 use Rattle.log_records.specs.Ids.{id_bytes, version_bytes}
 use Rattle.log_records.specs.Keys.{key_bytes, value_bytes}

@@ -1,5 +1,5 @@
 -- The bodies of frames: what was written is read again, and what was read has a spelling.
-use Rattle.std.proofs.Common.{◌≡◌, ℕ, zero, suc, ◌<◌, ◌≤◌, ◌==◌, true, false, nat_lt, List, [], ◌∷◌, ◌++◌, length, All, Result, Ok, refl, sym, subst, arith}
+use Rattle.std.proofs.Common.{◌≡◌, ℕ, zero, suc, ◌≤◌, true, false, nat_lt, List, ◌++◌, Result, Ok, refl, subst, arith}
 use Rattle.std.proofs.lemmas.Bool.{lt-ltb, ltb-true}
 use Rattle.helios_model.specs.Limits.{most_sites}
 use Rattle.helios_model.specs.Spellable.{IsSpellableAsk, IsSpellableMessage}

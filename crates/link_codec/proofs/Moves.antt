@@ -1,5 +1,5 @@
 -- What is read of bytes does not depend on how many there were before, where it is read again as it was.
-use Rattle.std.proofs.Common.{◌≡◌, ℕ, ◌+◌, ◌<◌, ◌≤◌, Bool, true, false, List, ◌++◌, length, drop, All, Result, Ok, Err, refl, sym, ap, ◌∙◌, arith, length-append, is_err, IsErr}
+use Rattle.std.proofs.Common.{◌≡◌, ℕ, ◌+◌, ◌<◌, ◌≤◌, List, ◌++◌, length, drop, All, Result, Ok, Err, refl, sym, ap, ◌∙◌, arith, length-append, IsErr}
 use Rattle.std.proofs.lemmas.List.{drop_at}
 use Rattle.log_records.specs.declared.faults.DecodeFault.{DecodeFault}
 use Rattle.log_records.specs.declared.faults.DecodeFault.TheVariants.{Cut, Bad, BadDigest, NoMemory}

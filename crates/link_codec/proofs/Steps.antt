@@ -1,5 +1,5 @@
 -- One field after another: what a step that was taken, or refused, says of what comes of it.
-use Rattle.std.proofs.Common.{◌≡◌, ℕ, ◌≤◌, ◌&&◌, Bool, true, false, not, cond, leb, List, Result, Ok, Err, refl, arith, IsErr}
+use Rattle.std.proofs.Common.{◌≡◌, ℕ, ◌≤◌, ◌&&◌, Bool, true, false, cond, leb, Result, Ok, Err, refl, IsErr}
 use Rattle.std.proofs.lemmas.Bool.{leb-true}
 use Rattle.log_records.specs.declared.faults.DecodeFault.{DecodeFault}
 use Rattle.log_records.specs.Fields.{◌>>=◌, is_within}

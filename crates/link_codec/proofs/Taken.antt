@@ -1,5 +1,5 @@
 -- A field that was read has a spelling, and that spelling begins the input.
-use Rattle.std.proofs.Common.{◌≡◌, ℕ, zero, suc, ◌+◌, ◌-◌, ◌^◌, ◌<◌, ◌≤◌, ◌==◌, ◌&&◌, Bool, true, false, cond, not, ltb, List, [], ◌∷◌, ◌++◌, length, get_or, take, drop, All, Result, Ok, refl, sym, ap, subst, ◌∙◌, append_assoc, arith, inl, inr, nat_lt}
+use Rattle.std.proofs.Common.{◌≡◌, ℕ, zero, suc, ◌+◌, ◌-◌, ◌<◌, ◌≤◌, ◌==◌, ◌&&◌, Bool, true, false, cond, not, ltb, List, [], ◌∷◌, ◌++◌, length, get_or, take, drop, All, Ok, refl, sym, ap, subst, ◌∙◌, append_assoc, arith, inl, inr, nat_lt}
 use Rattle.std.specs.Int.{Width, w16, w64, byte_len, from_be_bytes, to_be_bytes}
 use Rattle.std.proofs.lemmas.Bool.{cases_lt, ltb-false, ltb-true}
 use Rattle.std.proofs.lemmas.List.{get_or_default, get_or-drop, get_or-take, get_or_past, length-take, take-append-drop}
@@ -11,7 +11,6 @@ use Rattle.helios_model.specs.Limits.{last_time, most_key_bytes, most_sites, mos
 use Rattle.helios_model.specs.Spellable.{IsSpellableId, IsSpellableVersion}
 use Rattle.helios_model.specs.Spellings.{is_key}
 use Rattle.helios_model.specs.Texts.{IsKey, IsValue}
-use Rattle.log_records.specs.declared.faults.DecodeFault.{DecodeFault}
 use Rattle.log_records.specs.declared.faults.DecodeFault.TheVariants.{Cut, Bad}
 use Rattle.log_records.specs.Fields.{◌>>=◌, is_within, byte_at, number_at, text_at}
 use Rattle.log_records.specs.Ids.{id_bytes, id_at, version_bytes, version_at, version_of_id}

@@ -1,6 +1,6 @@
 -- A whole body of a kind, and what reading it says of the values that have it.
-use Rattle.std.proofs.Common.{◌≡◌, ◌⊎◌, ℕ, suc, ◌+◌, ◌^◌, ◌<◌, ◌≤◌, ◌==◌, Bool, true, false, List, [], ◌∷◌, ◌++◌, length, take, drop, All, Result, Ok, Err, refl, sym, ap, subst, ◌∙◌, append_assoc, arith, inl, inr, length-append, IsErr}
-use Rattle.std.specs.Int.{w32, from_be_bytes, to_be_bytes}
+use Rattle.std.proofs.Common.{◌≡◌, ℕ, suc, ◌+◌, ◌<◌, ◌≤◌, ◌==◌, true, false, List, [], ◌∷◌, ◌++◌, length, take, drop, All, Result, Ok, Err, refl, sym, ap, subst, ◌∙◌, append_assoc, arith, inl, inr, length-append}
+use Rattle.std.specs.Int.{w32, to_be_bytes}
 use Rattle.std.proofs.lemmas.Bool.{eqb-true}
 use Rattle.std.proofs.lemmas.List.{append-nil, drop_at, length-take-le, take-append-drop}
 use Rattle.std.proofs.lemmas.Nat.{be_bytes_4}
@@ -8,7 +8,7 @@ use Rattle.log_records.specs.declared.faults.DecodeFault.{DecodeFault}
 use Rattle.link_codec.specs.declared.faults.LinkFault.{LinkFault}
 use Rattle.link_codec.specs.declared.faults.LinkFault.TheVariants.{Cut, Bad, NoMemory}
 use Rattle.link_codec.specs.Decoding.{FrontFault, GivesBody, HasBody, IsBadFront, Refuses}
-use Rattle.link_codec.specs.Framing.{Decodes, IsBad, IsCut, IsKind, IsSpelledBody, Table, framed, told_body, told_length}
+use Rattle.link_codec.specs.Framing.{Decodes, IsBad, IsSpelledBody, Table, framed, told_body, told_length}
 use Rattle.link_codec.proofs.Moves.{not_both}
 use Rattle.link_codec.proofs.Steps.{ok_is}
 use Rattle.link_codec.proofs.Taken.{AreBytes, AreBytes-take, all_small}
@@ -70,7 +70,7 @@ input_is table kind rest body small has =
     let front : to_be_bytes w32 (length body) ≡ take 4 rest = ap (to_be_bytes w32) has.long ∙ four in
     let parts : rest ≡ take 4 rest ++ (told_body rest ++ behind rest) = sym (take-append-drop 4 rest) ∙ ap (λ (t : List ℕ). take 4 rest ++ t) (sym (take-append-drop (told_length rest) (drop 4 rest))) in
     let named : rest ≡ to_be_bytes w32 (length body) ++ (body ++ behind rest) =
-        parts ∙ ap (λ (t : List ℕ). take 4 rest ++ (t ++ behind rest)) (sym has.is) ∙ ap (λ (t : List ℕ). t ++ (body ++ behind rest)) (sym front) in
+    parts ∙ ap (λ (t : List ℕ). take 4 rest ++ (t ++ behind rest)) (sym has.is) ∙ ap (λ (t : List ℕ). t ++ (body ++ behind rest)) (sym front) in
     ap (λ (t : List ℕ). kind ∷ t) (named ∙ sym (append_assoc (to_be_bytes w32 (length body)) body (behind rest)))
 
 pub framed_long : (kind : ℕ) (body : List ℕ) → length (framed kind body) ≡ 5 + length body

@@ -1,6 +1,6 @@
 -- Answers, which a node sends. The body of a Welcome is the node's site, of a Refuse a code from 1 to 7, and of a Reply a byte for
 -- its kind and what the reply names.
-use Rattle.std.specs.Prelude.{◌≡◌, ℕ, ◌<◌, ◌≤◌, List, [], ◌∷◌, ◌++◌, Result}
+use Rattle.std.specs.Prelude.{ℕ, ◌<◌, ◌≤◌, List, [], ◌∷◌, ◌++◌, Result}
 use Rattle.helios_model.specs.declared.entries.Reply.{Reply}
 use Rattle.helios_model.specs.declared.entries.Reply.TheVariants.{Prepared, Committed, Overwritten, Conflict, Value, State as StateReply, Sent, Taken, ClockSpent, PoolFull}
 use Rattle.helios_model.specs.declared.entries.State.{State}

@@ -4,8 +4,8 @@ ghost use Rattle.std.specs.Prelude.{◌≡◌};
 use crate::faults::LinkFault;
 use crate::fronts::{front_ask, front_message};
 use helios_model::{
-    Ask, Bytes, Key, LAST_TIME, MOST_KEY_BYTES, MOST_SITES, MOST_VALUE_BYTES, Message, SiteId, Time,
-    TxnId, Val, Version, key_from,
+    Ask, Bytes, Key, LAST_TIME, MOST_KEY_BYTES, MOST_SITES, MOST_VALUE_BYTES, Message, SiteId,
+    Time, TxnId, Val, Version, key_from,
 };
 use std::alloc::Global;
 

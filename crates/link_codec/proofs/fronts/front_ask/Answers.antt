@@ -1,4 +1,4 @@
-use Rattle.std.proofs.Common.{◌-◌, ◌≤◌, Ok, sym, ap, ◌∙◌, drop, length, arith}
+use Rattle.std.proofs.Common.{◌-◌, Ok, sym, ap, ◌∙◌, drop, arith}
 use Rattle.std.proofs.lemmas.Result.{err_from_is_err_and}
 use Rattle.helios_model.specs.Transactions.{Asking}
 use Rattle.link_codec.proofs.Asks.{ask_read, ask_refused, same_some}
