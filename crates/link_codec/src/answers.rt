@@ -90,7 +90,7 @@ fn put_answer(alloc: Global, out: &mut Vec<u8>, a: &Answer, size: usize) -> Resu
     Ok(())
 }
 
-/// Writes the one spelling of an answer behind what the buffer has.
+/// Writes the one spelling of an answer behind what a buffer has, which after want of memory may have a front of it there.
 pub fn append_answer(alloc: Global, out: &mut Vec<u8>, a: &Answer) -> Result<(), AllocError>
     requires { IsSpellableAnswer a.now }
     ensures { OnOk result (out.new.items ≡ out.old.items ++ answer_bytes a.now) }

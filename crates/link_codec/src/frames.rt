@@ -84,7 +84,7 @@ fn begun(alloc: Global, kind: u8, length: u32) -> Result<Vec<u8>, AllocError>
     Ok(out)
 }
 
-/// A frame of a kind with a body of at most so many bytes.
+/// A frame of a kind with this body.
 fn framed(alloc: Global, kind: u8, body: &[u8]) -> Result<Vec<u8>, AllocError>
     requires { length body.now < 2 ^ 32 }
     ensures { IfOk result (λ out. out.items ≡ framed kind body.now) }
