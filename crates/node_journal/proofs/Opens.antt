@@ -10,7 +10,7 @@ use Rattle.disk_store.specs.Moments.{Elapses, AtEachMoment}
 use Rattle.disk_store.specs.Laws.Moments.{Past, moments_call, moments_join, moments_weaker}
 use Rattle.node_journal.specs.Frames.{IsSmall, frames, IsReadTo, StandsFor}
 use Rattle.node_journal.specs.Appending.{WhileWriting}
-use Rattle.node_journal.specs.Opening.{KeepsPayloads, opened}
+use Rattle.node_journal.specs.Opening.{IsUnwritten, KeepsPayloads, opened}
 use Rattle.disk_store.specs.Laws.Writes.{torn_images, rest_images}
 
 no_frames : (payloads : List (List ℕ)) → frames payloads ≡ [] → payloads ≡ []
@@ -109,6 +109,25 @@ moments_made past past1 past2 (Some disk) mid (Some t) is time short two told =
     moments_join (Kept disk) past past1 past2 synced t
     (moments_call (Kept disk) past past1 disk synced time' (inl refl) (inr (rest_keeps disk)))
     (moments_weaker (WhileWriting 0 (0 ∷ []) synced) (Kept disk) (λ d while. inr (made_keeps disk short' d while)) past1 past2 t two')
+
+-- the first sync writes nothing
+pub unwritten_sync : (past past' : Past) (old new : Option DiskState) → (new ≡ option_map after_sync old) ⊎ (new ≡ old) → Elapses past past' old new
+    → IfSome old (λ disk. 1 < length disk.bytes → AtEachMoment past past' new (IsUnwritten disk))
+unwritten_sync past past' None new synced time = tt
+unwritten_sync past past' (Some disk) new (inl done) time = λ long.
+    subst (λ (s : Option DiskState). AtEachMoment past past' s (IsUnwritten disk)) (sym done)
+    (moments_call (IsUnwritten disk) past past' disk (at_rest disk.bytes) (subst (λ (s : Option DiskState). Elapses past past' (Some disk) s) done time) (inl refl) (inr refl))
+unwritten_sync past past' (Some disk) new (inr same) time = λ long.
+    subst (λ (s : Option DiskState). AtEachMoment past past' s (IsUnwritten disk)) (sym same)
+    (moments_call (IsUnwritten disk) past past' disk disk (subst (λ (s : Option DiskState). Elapses past past' (Some disk) s) same time) (inl refl) (inl refl))
+
+-- the first gate is made over at most one byte
+pub unwritten_made : (past past' : Past) (old mid new : Option DiskState) → mid ≡ option_map after_sync old → IfSome mid (λ disk. length disk.bytes ≤ 1)
+    → IfSome old (λ disk. 1 < length disk.bytes → AtEachMoment past past' new (IsUnwritten disk))
+unwritten_made past past' None mid new is short = tt
+unwritten_made past past' (Some disk) mid new is short = λ long.
+    let short' : length disk.bytes ≤ 1 = subst (λ (s : Option DiskState). IfSome s (λ d. length d.bytes ≤ 1)) is short in
+    absurd (omega arith)
 
 -- where nothing was pending, as it was is no exception
 pub moments_at_rest : (past past' : Past) (old new : Option DiskState) → Moments past past' old new → IfSome old (λ disk. IsAtRest disk → AtEachMoment past past' new (λ t. KeepsPayloads disk t))

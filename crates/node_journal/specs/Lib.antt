@@ -6,3 +6,4 @@ pub mod Gates
 pub mod Reading
 pub mod Lines
 pub mod Laws
+pub mod Devices

@@ -6,6 +6,7 @@ ghost use Rattle.disk_store.specs.Disk.{GivesBytes, IsImage};
 ghost use Rattle.disk_store.specs.Outlook.{never};
 ghost use Rattle.node_journal.specs.Frames.{length_bytes, length_from};
 ghost use Rattle.node_journal.specs.Gates.{GateIs};
+ghost use Rattle.node_journal.specs.Devices.{SameRoom, StaysQuiet};
 
 use disk_store::Disk;
 use outside_io::Failed;
@@ -26,11 +27,11 @@ pub(crate) fn read_gate<D: Disk>(disk: &mut D, gate: u64) -> Result<Gate, Failed
     requires { ForSome (D.state disk.old) (λ d. gate < length d.bytes) }
     ensures stands { IfOk result (λ found. IfSome (D.state disk.old) (λ d. GateIs d.bytes gate found)) }
     ensures image { IfSome (D.state disk.new) (λ d. IsImage d d.bytes) }
-    ensures room { option_map (λ o. o.room) (D.outlook disk.new) ≡ option_map (λ o. o.room) (D.outlook disk.old) }
+    ensures room { SameRoom (D.outlook disk.old) (D.outlook disk.new) }
     ensures same { D.state disk.new ≡ D.state disk.old }
     ensures same_past { D.past disk.new ≡ D.past disk.old }
     ensures failed { IfSome (D.outlook disk.old) (λ o. IsErr result → o.failing ≢ never) }
-    ensures quiet { IfSome (D.outlook disk.old) (λ o. o.failing ≡ never → D.outlook disk.new ≡ Some o) }
+    ensures quiet { StaysQuiet (D.outlook disk.old) (D.outlook disk.new) }
     ensures keeps { D.keeps disk.new ≡ D.keeps disk.old }
     ensures count { IsCount (D.faults disk.new) }
     ensures cause { HasCause (D.faults disk.old) (D.faults disk.new) result }

@@ -6,6 +6,7 @@ ghost use Rattle.disk_store.specs.Outlook.{never, outlook_next};
 ghost use Rattle.disk_store.specs.Moments.{AtEachMoment};
 ghost use Rattle.node_journal.specs.Frames.{IsSmall, IsReadTo, EndsAt};
 ghost use Rattle.node_journal.specs.Appending.{IsReady, IsBeforeOrAfter, sealed, end_of, lasts, failed_state, spent, four_calls_later};
+ghost use Rattle.node_journal.specs.Devices.{SameRoom, StaysQuiet};
 
 use crate::device::write_durably;
 use crate::{Framed, JournalFault};
@@ -51,7 +52,7 @@ impl Journal {
         // At each exit the disk reads as one of its images, and tells what it told.
         ensures image { IfSome (D.state disk.new) (λ d. IsImage d d.bytes) }
         ensures told { is_some (D.state disk.new) ≡ is_some (D.state disk.old) }
-        ensures room { option_map (λ o. o.room) (D.outlook disk.new) ≡ option_map (λ o. o.room) (D.outlook disk.old) }
+        ensures room { SameRoom (D.outlook disk.old) (D.outlook disk.new) }
 
         ensures small { IsSmall frame.now }
         ensures full { (result ≡ Err JournalFault.JournalFull) ↔ (self.limit < end_of self.gate frame.now) }
@@ -72,7 +73,7 @@ impl Journal {
         ensures calls { OnOk result (D.outlook disk.new ≡ option_map four_calls_later (D.outlook disk.old)) }
         ensures spent { IfSome (D.outlook disk.old) (λ o. IsErrOf result JournalFault.DiskFailed →
             D.outlook disk.new ≡ Some (spent (end_of self.gate frame.now) o)) }
-        ensures quiet { IfSome (D.outlook disk.old) (λ o. o.failing ≡ never → D.outlook disk.new ≡ Some o) }
+        ensures quiet { StaysQuiet (D.outlook disk.old) (D.outlook disk.new) }
     {
         let bytes = frame.bytes();
         let size = bytes.len() as u64;

@@ -6,6 +6,7 @@ ghost use Rattle.disk_store.specs.Outlook.{never};
 ghost use Rattle.node_journal.specs.Frames.{IsReadTo, most_payload};
 ghost use Rattle.node_journal.specs.Gates.{HasLength};
 ghost use Rattle.node_journal.specs.Reading.{Finds, ReadsOn, LeavesReady, Advances};
+ghost use Rattle.node_journal.specs.Devices.{SameRoom, StaysQuiet};
 
 use crate::framed::MOST_PAYLOAD;
 use crate::gate::{Gate, read_gate};
@@ -28,7 +29,7 @@ impl Reading {
         ensures forward { IfOk result (λ found. Advances self found) }
 
         ensures image { IfSome (D.state disk.new) (λ d. IsImage d d.bytes) }
-        ensures room { option_map (λ o. o.room) (D.outlook disk.new) ≡ option_map (λ o. o.room) (D.outlook disk.old) }
+        ensures room { SameRoom (D.outlook disk.old) (D.outlook disk.new) }
         ensures same { D.state disk.new ≡ D.state disk.old }
         ensures same_past { D.past disk.new ≡ D.past disk.old }
         ensures not_full { result ≢ Err JournalFault.JournalFull }
@@ -38,7 +39,39 @@ impl Reading {
         ensures steady { IsErrOf result JournalFault.DiskFailed ⊎ (D.faults disk.new ≡ D.faults disk.old) }
         ensures cause { IsErrOf result JournalFault.DiskFailed → Rose (D.faults disk.old) (D.faults disk.new) }
         ensures failed { IfSome (D.outlook disk.old) (λ o. IsErrOf result JournalFault.DiskFailed → o.failing ≢ never) }
-        ensures quiet { IfSome (D.outlook disk.old) (λ o. o.failing ≡ never → D.outlook disk.new ≡ Some o) }
+        ensures quiet { StaysQuiet (D.outlook disk.old) (D.outlook disk.new) }
+    {
+        self.next_into(Vec::new(alloc), disk)
+    }
+
+    /// The same, with the payload in this buffer's memory, whatever it holds.
+    pub fn next_into<D: Disk>(
+        self,
+        buffer: Vec<u8>,
+        disk: &mut D,
+    ) -> Result<Found, JournalFault>
+        // The disk reads as the call before left it, so the gate stands there.
+        requires { ForSome (D.state disk.old) (λ d. self.gate < length d.bytes) }
+
+        ensures found { IfSome (D.state disk.old) (λ d. Finds d.bytes self result) }
+        ensures read_on { IfSome (D.state disk.old) (λ d. (payloads : List (List ℕ)) → IsReadTo d.bytes self.gate payloads → ReadsOn d.bytes payloads result) }
+
+        ensures ready { IfOk result (λ found. ForSome (D.state disk.new) (λ d. LeavesReady found d)) }
+        // Each frame leads on, whatever the disk tells.
+        ensures forward { IfOk result (λ found. Advances self found) }
+
+        ensures image { IfSome (D.state disk.new) (λ d. IsImage d d.bytes) }
+        ensures room { SameRoom (D.outlook disk.old) (D.outlook disk.new) }
+        ensures same { D.state disk.new ≡ D.state disk.old }
+        ensures same_past { D.past disk.new ≡ D.past disk.old }
+        ensures not_full { result ≢ Err JournalFault.JournalFull }
+        ensures later { D.faults disk.old ≤ D.faults disk.new }
+        ensures keeps { D.keeps disk.new ≡ D.keeps disk.old }
+        ensures count { IsCount (D.faults disk.new) }
+        ensures steady { IsErrOf result JournalFault.DiskFailed ⊎ (D.faults disk.new ≡ D.faults disk.old) }
+        ensures cause { IsErrOf result JournalFault.DiskFailed → Rose (D.faults disk.old) (D.faults disk.new) }
+        ensures failed { IfSome (D.outlook disk.old) (λ o. IsErrOf result JournalFault.DiskFailed → o.failing ≢ never) }
+        ensures quiet { StaysQuiet (D.outlook disk.old) (D.outlook disk.new) }
     {
         match read_gate(disk, self.gate)? {
             Gate::Closed => Ok(Found::Last(Journal {
@@ -46,14 +79,14 @@ impl Reading {
                 limit: self.limit,
             })),
             Gate::Cut => Err(JournalFault::Damaged { at: self.gate }),
-            Gate::Length(size) => self.read_frame(alloc, disk, u64::from(size)),
+            Gate::Length(size) => self.read_frame(buffer, disk, u64::from(size)),
         }
     }
 
     /// Reads the frame whose length stands behind the gate.
     fn read_frame<D: Disk>(
         self,
-        alloc: Global,
+        buffer: Vec<u8>,
         disk: &mut D,
         size: u64,
     ) -> Result<Found, JournalFault>
@@ -61,7 +94,7 @@ impl Reading {
         requires bounded { size < 2 ^ 32 }
         ensures found { IfSome (D.state disk.old) (λ d. Finds d.bytes self result) }
         ensures forward { IfOk result (λ found. Advances self found) }
-        ensures room { option_map (λ o. o.room) (D.outlook disk.new) ≡ option_map (λ o. o.room) (D.outlook disk.old) }
+        ensures room { SameRoom (D.outlook disk.old) (D.outlook disk.new) }
         ensures same { D.state disk.new ≡ D.state disk.old }
         ensures same_past { D.past disk.new ≡ D.past disk.old }
         ensures not_full { result ≢ Err JournalFault.JournalFull }
@@ -71,7 +104,7 @@ impl Reading {
         ensures steady { IsErrOf result JournalFault.DiskFailed ⊎ (D.faults disk.new ≡ D.faults disk.old) }
         ensures cause { IsErrOf result JournalFault.DiskFailed → Rose (D.faults disk.old) (D.faults disk.new) }
         ensures failed { IfSome (D.outlook disk.old) (λ o. IsErrOf result JournalFault.DiskFailed → o.failing ≢ never) }
-        ensures quiet { IfSome (D.outlook disk.old) (λ o. o.failing ≡ never → D.outlook disk.new ≡ Some o) }
+        ensures quiet { StaysQuiet (D.outlook disk.old) (D.outlook disk.new) }
     {
         let damaged = JournalFault::Damaged { at: self.gate };
         if size > MOST_PAYLOAD {
@@ -82,7 +115,7 @@ impl Reading {
             let _length = disk.len()?;
             return Err(damaged);
         };
-        match read_payload(alloc, disk, self.gate + 5, size as usize)? {
+        match read_payload(buffer, disk, self.gate + 5, size as usize)? {
             Some(payload) => Ok(Found::Frame {
                 reading: Reading {
                     gate: end - 1,
@@ -96,10 +129,10 @@ impl Reading {
     }
 }
 
-/// Reads so many bytes where one more stands behind them; `None` where the disk gives fewer.
+/// Reads so many bytes into a buffer where one more stands behind them; `None` where the disk gives fewer.
 #[tactic(auto, using(crate::proofs::Founds::payload_whole, crate::proofs::Founds::payload_short))]
 fn read_payload<D: Disk>(
-    alloc: Global,
+    buffer: Vec<u8>,
     disk: &mut D,
     at: u64,
     size: usize,
@@ -108,7 +141,7 @@ fn read_payload<D: Disk>(
     ensures whole { IfOk result (λ found. IfSome found (λ payload. IfSome (D.state disk.old) (λ d. (at + size < length d.bytes) × (payload ≡ take size (drop at d.bytes))))) }
     ensures short { IfOk result (λ found. IfNone found (IfSome (D.state disk.old) (λ d. length d.bytes ≤ at + size))) }
     ensures size { IfOk result (λ found. IfSome found (λ payload. length payload ≡ size)) }
-    ensures room { option_map (λ o. o.room) (D.outlook disk.new) ≡ option_map (λ o. o.room) (D.outlook disk.old) }
+    ensures room { SameRoom (D.outlook disk.old) (D.outlook disk.new) }
     ensures same { D.state disk.new ≡ D.state disk.old }
     ensures same_past { D.past disk.new ≡ D.past disk.old }
     ensures faults { IfErr result (λ fault. (fault ≡ JournalFault.DiskFailed) ⊎ (fault ≡ JournalFault.NoMemory)) }
@@ -118,10 +151,10 @@ fn read_payload<D: Disk>(
     ensures steady { IsErrOf result JournalFault.DiskFailed ⊎ (D.faults disk.new ≡ D.faults disk.old) }
     ensures cause { IsErrOf result JournalFault.DiskFailed → Rose (D.faults disk.old) (D.faults disk.new) }
     ensures failed { IfSome (D.outlook disk.old) (λ o. IsErrOf result JournalFault.DiskFailed → o.failing ≢ never) }
-    ensures quiet { IfSome (D.outlook disk.old) (λ o. o.failing ≡ never → D.outlook disk.new ≡ Some o) }
+    ensures quiet { StaysQuiet (D.outlook disk.old) (D.outlook disk.new) }
 {
     // The byte behind the payload is the next gate: so the disk need not be asked for its length.
-    let mut bytes = Vec::with_capacity(alloc, size + 1)?;
+    let mut bytes = buffer;
     bytes.resize(size + 1, 0)?;
     let count = disk.read_at(at, &mut bytes)?;
     if count <= size {

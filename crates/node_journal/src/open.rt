@@ -5,7 +5,8 @@ ghost use Rattle.disk_store.specs.Disk.{IsImage, IsAtRest, at_rest};
 ghost use Rattle.disk_store.specs.Outlook.{never};
 ghost use Rattle.disk_store.specs.Moments.{AtEachMoment};
 ghost use Rattle.node_journal.specs.Frames.{IsReadTo};
-ghost use Rattle.node_journal.specs.Opening.{KeepsPayloads, opened};
+ghost use Rattle.node_journal.specs.Opening.{IsUnwritten, KeepsPayloads, opened};
+ghost use Rattle.node_journal.specs.Devices.{SameRoom, StaysQuiet};
 
 use crate::device::write_durably;
 use crate::{Journal, JournalFault, Reading};
@@ -36,11 +37,14 @@ impl Journal {
             AtEachMoment (D.past disk.old) (D.past disk.new) (D.state disk.new) (λ t. (t ≡ d) ⊎ KeepsPayloads d t)) }
         ensures any_moment_at_rest { IfSome (D.state disk.old) (λ d. IsAtRest d →
             AtEachMoment (D.past disk.old) (D.past disk.new) (D.state disk.new) (λ t. KeepsPayloads d t)) }
+        // Where there are more bytes than one, whatever they are, nothing is written.
+        ensures unwritten { IfSome (D.state disk.old) (λ d. 1 < length d.bytes →
+            AtEachMoment (D.past disk.old) (D.past disk.new) (D.state disk.new) (IsUnwritten d)) }
 
         // At each exit the disk reads as one of its images, and tells what it told.
         ensures image { IfSome (D.state disk.new) (λ d. IsImage d d.bytes) }
         ensures told { is_some (D.state disk.new) ≡ is_some (D.state disk.old) }
-        ensures room { option_map (λ o. o.room) (D.outlook disk.new) ≡ option_map (λ o. o.room) (D.outlook disk.old) }
+        ensures room { SameRoom (D.outlook disk.old) (D.outlook disk.new) }
 
         ensures faults { IfErr result (λ fault. fault ≡ JournalFault.DiskFailed) }
         ensures later { D.faults disk.old ≤ D.faults disk.new }
@@ -49,7 +53,7 @@ impl Journal {
         ensures steady { IsErrOf result JournalFault.DiskFailed ⊎ (D.faults disk.new ≡ D.faults disk.old) }
         ensures cause { IsErrOf result JournalFault.DiskFailed → Rose (D.faults disk.old) (D.faults disk.new) }
         ensures failed { IfSome (D.outlook disk.old) (λ o. IsErr result → (o.failing ≢ never) ⊎ (o.room ≡ 0)) }
-        ensures quiet { IfSome (D.outlook disk.old) (λ o. o.failing ≡ never → D.outlook disk.new ≡ Some o) }
+        ensures quiet { StaysQuiet (D.outlook disk.old) (D.outlook disk.new) }
     {
         ensure_first_gate(disk)?;
         Ok(Reading { gate: 0, limit })
@@ -61,14 +65,16 @@ fn ensure_first_gate<D: Disk>(disk: &mut D) -> Result<(), Failed>
     ensures opened { OnOk result (D.state disk.new ≡ option_map (λ d. at_rest (opened d.bytes)) (D.state disk.old)) }
     ensures any_moment { IfSome (D.state disk.old) (λ d.
         AtEachMoment (D.past disk.old) (D.past disk.new) (D.state disk.new) (λ t. (t ≡ d) ⊎ KeepsPayloads d t)) }
+    ensures unwritten { IfSome (D.state disk.old) (λ d. 1 < length d.bytes →
+        AtEachMoment (D.past disk.old) (D.past disk.new) (D.state disk.new) (IsUnwritten d)) }
     ensures image { IfSome (D.state disk.new) (λ d. IsImage d d.bytes) }
     ensures told { is_some (D.state disk.new) ≡ is_some (D.state disk.old) }
-    ensures room { option_map (λ o. o.room) (D.outlook disk.new) ≡ option_map (λ o. o.room) (D.outlook disk.old) }
+    ensures room { SameRoom (D.outlook disk.old) (D.outlook disk.new) }
     ensures keeps { D.keeps disk.new ≡ D.keeps disk.old }
     ensures count { IsCount (D.faults disk.new) }
     ensures cause { HasCause (D.faults disk.old) (D.faults disk.new) result }
     ensures failed { IfSome (D.outlook disk.old) (λ o. IsErr result → (o.failing ≢ never) ⊎ (o.room ≡ 0)) }
-    ensures quiet { IfSome (D.outlook disk.old) (λ o. o.failing ≡ never → D.outlook disk.new ≡ Some o) }
+    ensures quiet { StaysQuiet (D.outlook disk.old) (D.outlook disk.new) }
 {
     // What is read from here on has to be what a crash leaves.
     disk.sync()?;

@@ -1,5 +1,5 @@
 use Rattle.node_journal.proofs.Founds.{read_on}
-use Rattle.node_journal.proofs.reading.Reading.next.Goals as goal
+use Rattle.node_journal.proofs.reading.Reading.next_into.Goals as goal
 
 pub returns-in-Length-clause-read_on : goal.returns-in-Length-clause-read_on
 returns-in-Length-clause-read_on g c =
