@@ -1,18 +1,19 @@
 -- Entries that are answered one after the other.
-use Rattle.std.proofs.Common.{◌≡◌, ◌∙◌, ap, refl, sym, subst, ℕ, ◌<◌, get_or, List, [], ◌∷◌, ◌++◌, append_assoc, length, map}
+use Rattle.std.proofs.Common.{◌≡◌, ◌∙◌, ap, refl, sym, subst, ℕ, ◌<◌, get_or, List, [], ◌∷◌, ◌++◌, append_assoc, drop, length, map, Option, IfSome}
 use Rattle.std.proofs.lemmas.Grind.{fold-append}
 use Rattle.std.proofs.lemmas.List.{append-nil}
 use Rattle.commit_rules.specs.Core.{CoreState, IsCoreOf}
 use Rattle.helios_model.specs.declared.entries.Entry.{Entry}
 use Rattle.helios_model.specs.declared.entries.Reply.{Reply}
 use Rattle.helios_model.specs.declared.records.CommitEvent.{CommitEvent}
+use Rattle.helios_model.specs.declared.records.Record.{Record}
 use Rattle.helios_model.specs.Plans.{PlanData}
 use Rattle.helios_model.specs.Node.{Node}
 use Rattle.helios_model.specs.Step.{MayBeAsked, after_entries, after_entry, step}
 use Rattle.helios_model.specs.World.{own_commits}
 use Rattle.node_host.specs.Answering.{HasAnswered, HasRedone, answers}
 use Rattle.node_host.specs.Journals.{AreAsked}
-use Rattle.node_host.proofs.Grows.{commits_both, entries_go}
+use Rattle.node_host.proofs.Grows.{commits_both, drop_grown, entries_go}
 
 pub answers_both : (plan : PlanData) (n : Node) (es fs : List Entry) → answers plan n (es ++ fs) ≡ answers plan n es ++ answers plan (after_entries plan n es) fs
 answers_both plan n [] fs = refl
@@ -77,19 +78,33 @@ answered_as plan n es core given given' commits commits' h same same' = record {
 
 -- ---- the same without the replies
 
-pub redone : (plan : PlanData) (n : Node) (es : List Entry) (core : CoreState) (given : List Reply) (commits : List CommitEvent)
-    → HasAnswered plan n es core given commits → HasRedone plan n es core commits
-redone plan n es core given commits h = record { stands = h.stands; replied = refl; committed = h.committed }
+abbrev KeepsLog : Option (List Record) → Node → Type 0
+KeepsLog log n = IfSome log (λ records. records ≡ n.log)
 
-pub redone_on : (plan : PlanData) (n : Node) (before yielded : List Entry) (e : Entry) (core : CoreState) (commits : List CommitEvent)
-    → HasRedone plan n ((before ++ yielded) ++ e ∷ []) core commits → HasRedone plan n (before ++ (yielded ++ e ∷ [])) core commits
-redone_on plan n before yielded e core commits h = subst (λ (es : List Entry). HasRedone plan n es core commits) (append_assoc before yielded (e ∷ [])) h
+pub redone : (plan : PlanData) (n : Node) (es : List Entry) (core : CoreState) (given : List Reply) (commits : List CommitEvent) (log : Option (List Record))
+    → HasAnswered plan n es core given commits → IfSome log (λ records. records ≡ (after_entries plan n es).log) → HasRedone plan n es core commits log
+redone plan n es core given commits log h kept = record { answered = record { stands = h.stands; replied = refl; committed = h.committed }; logged = kept }
 
-pub redone_start : (plan : PlanData) (n : Node) (before : List Entry) (core : CoreState) (commits : List CommitEvent)
-    → HasRedone plan n before core commits → HasRedone plan n (before ++ []) core commits
-redone_start plan n before core commits h = subst (λ (es : List Entry). HasRedone plan n es core commits) (sym (append-nil before)) h
+-- what is kept of the log goes on with what the next entry adds
+pub log_on : (plan : PlanData) (n : Node) (es : List Entry) (e : Entry) (log : Option (List Record)) → IfSome log (λ records. records ≡ (step plan (after_entries plan n es) e).node.log)
+    → IfSome log (λ records. records ≡ (after_entries plan n (es ++ e ∷ [])).log)
+log_on plan n es e log kept = subst (KeepsLog log) (sym (fold-append (after_entry plan) n es (e ∷ []))) kept
 
-pub redone_all : (plan : PlanData) (n : Node) (before yielded entries : List Entry) (core : CoreState) (commits : List CommitEvent)
-    → map (λ x. x) yielded ≡ entries → HasRedone plan n (before ++ yielded) core commits → HasRedone plan n (before ++ entries) core commits
-redone_all plan n before yielded entries core commits all h =
-    subst (λ (es : List Entry). HasRedone plan n (before ++ es) core commits) (sym (map_itself yielded) ∙ all) h
+pub log_grown : (plan : PlanData) (n : Node) (e : Entry) (records added : List Record) → records ≡ n.log → added ≡ drop (length n.log) (step plan n e).node.log
+    → records ++ added ≡ (step plan n e).node.log
+log_grown plan n e records added is more =
+    let goes = (entries_go plan n (e ∷ [])).log in
+    ap (λ rs. rs ++ added) is ∙ ap (λ rs. n.log ++ rs) (more ∙ drop_grown n.log (step plan n e).node.log goes) ∙ sym goes.grown
+
+pub redone_on : (plan : PlanData) (n : Node) (before yielded : List Entry) (e : Entry) (core : CoreState) (commits : List CommitEvent) (log : Option (List Record))
+    → HasRedone plan n ((before ++ yielded) ++ e ∷ []) core commits log → HasRedone plan n (before ++ (yielded ++ e ∷ [])) core commits log
+redone_on plan n before yielded e core commits log h = subst (λ (es : List Entry). HasRedone plan n es core commits log) (append_assoc before yielded (e ∷ [])) h
+
+pub redone_start : (plan : PlanData) (n : Node) (before : List Entry) (core : CoreState) (commits : List CommitEvent) (log : Option (List Record))
+    → HasRedone plan n before core commits log → HasRedone plan n (before ++ []) core commits log
+redone_start plan n before core commits log h = subst (λ (es : List Entry). HasRedone plan n es core commits log) (sym (append-nil before)) h
+
+pub redone_all : (plan : PlanData) (n : Node) (before yielded entries : List Entry) (core : CoreState) (commits : List CommitEvent) (log : Option (List Record))
+    → map (λ x. x) yielded ≡ entries → HasRedone plan n (before ++ yielded) core commits log → HasRedone plan n (before ++ entries) core commits log
+redone_all plan n before yielded entries core commits log all h =
+    subst (λ (es : List Entry). HasRedone plan n (before ++ es) core commits log) (sym (map_itself yielded) ∙ all) h

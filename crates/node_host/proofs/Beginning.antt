@@ -1,6 +1,7 @@
 -- Journals that are opened first, or begun with a head.
 use Rattle.std.proofs.Common.{◌≡◌, ◌≢◌, ◌⊎◌, ◌∙◌, ap, refl, sym, subst, inl, inr, ℕ, ◌<◌, ◌≤◌, List, [], ◌∷◌, length, slice_index, Ok, Option, Some, None, is_some, IfSome, true, false, arith}
 use Rattle.std.specs.Option.{ForSome}
+use Rattle.std.proofs.lemmas.List.Elements.{All-nil}
 use Rattle.helios_model.specs.declared.entries.Entry.{Entry}
 use Rattle.helios_model.specs.Node.{empty_node}
 use Rattle.commit_offsets.specs.Fingerprint.{fingerprint_of}
@@ -16,8 +17,8 @@ use Rattle.log_records.specs.Heads.{head_bytes, head_of, IsSpellableHead}
 use Rattle.helios_model.specs.Limits.{most_sites}
 use Rattle.node_host.specs.declared.host.Opened.{Opened}
 use Rattle.node_host.specs.Fresh.{IsFresh}
-use Rattle.node_host.specs.Hosts.{IsHostOn, IsOpened}
-use Rattle.node_host.specs.Journals.{HoldsBatches, IsHeadOf, IsJournal, KeepsBatches}
+use Rattle.node_host.specs.Hosts.{IsHostOn, IsOpened, StandsForSome}
+use Rattle.node_host.specs.Journals.{AreAsked, HoldsBatches, IsHeadOf, IsJournal, KeepsBatches}
 use Rattle.node_host.specs.Opening.{LeavesHead}
 use Rattle.node_host.specs.Recovery.{recovered}
 use Rattle.node_host.proofs.FirstHeads.{head_is}
@@ -32,7 +33,7 @@ abbrev pub head_written : List ℕ → ℕ → List ℕ
 head_written fingerprint site = head_bytes (record { version = 1; fingerprint = fingerprint; site = site })
 
 -- the journal holds nothing
-none_held : (bytes : List ℕ) (gate : ℕ) → gate ≡ 0 → gate < length bytes → slice_index bytes gate ≢ 1 → StandsFor bytes []
+pub none_held : (bytes : List ℕ) (gate : ℕ) → gate ≡ 0 → gate < length bytes → slice_index bytes gate ≢ 1 → StandsFor bytes []
 none_held bytes gate zero within closed = inr (
   gate,
   record {
@@ -79,6 +80,17 @@ module _ (self core : CoreState) (fingerprint : List ℕ) (at count : ℕ) (same
       by_state : (s : Option DiskState) → ForSome s (λ d. IsReady d gate) → IfSome s (λ d. OpensWell self.plan self.site limit d.bytes)
       by_state None ready = tt
       by_state (Some d) ready = ([], record { payloads = []; stands = none d (ready d refl); journal = refl }, λ so. roomy)
+
+  -- the host is the empty node, whatever the disk tells
+  pub begun_for_some : (opened : Opened) → opened.host.core ≡ core → opened.batches ≡ 0 → opened.last ≡ [] → StandsForSome self.plan self.site opened
+  begun_for_some opened core_is number last = record {
+    batches = [];
+    asked = All-nil (AreAsked self.plan self.site);
+    number_and_last = record { number = number; last = last ∙ sym (ap (λ r. r.last) (first_is self.plan self.site)) };
+    node = subst (λ r. IsCoreOf opened.host.core self.plan r.node) (sym (first_is self.plan self.site))
+        (subst (λ (k : CoreState). IsCoreOf k self.plan (empty_node self.plan self.site)) (sym core_is)
+        (subst (λ (k : CoreState). IsCoreOf core k.plan (empty_node k.plan k.site)) same fresh.empty));
+  }
 
   pub begun_stands : (opened : Opened) (new : Option DiskState)
       → IfSome state (λ d. IsReadTo d.bytes gate [] → ForSome new (LeavesHead (head_written fingerprint at) opened.host.gate))

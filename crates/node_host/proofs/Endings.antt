@@ -1,9 +1,10 @@
 -- What a disk reads as decides how an opening ends.
-use Rattle.std.proofs.Common.{◌≡◌, ◌⊎◌, ◌∙◌, refl, sym, ap, subst, inl, inr, ℕ, ◌<◌, ◌≤◌, List, [], ◌∷◌, ◌++◌, length, Result, Ok, Err, arith, length-append}
+use Rattle.std.proofs.Common.{◌≡◌, ◌⊎◌, ◌∙◌, refl, sym, ap, subst, inl, inr, ℕ, ◌<◌, ◌≤◌, List, [], ◌∷◌, ◌++◌, length, Result, Ok, Err, IsErrOf, arith, length-append}
 use Rattle.helios_model.specs.declared.entries.Entry.{Entry}
+use Rattle.helios_model.specs.declared.records.Record.{Record}
 use Rattle.helios_model.specs.Plans.{PlanData}
 use Rattle.node_journal.specs.Frames.{HoldsFrame, LeadsNowhere, StandsFor}
-use Rattle.node_journal.specs.Laws.{GoesOn, NextOfList, NoFrame, NoList, OneFrame, OneReading}
+use Rattle.node_journal.specs.Laws.{GoesOn, NextOfList, NoFrame, NoList, OneFrame, OneList, OneReading}
 use Rattle.log_records.specs.declared.heads.Head.{Head}
 use Rattle.log_records.specs.Heads.{head_of}
 use Rattle.commit_offsets.specs.Fingerprint.{fingerprint_of}
@@ -12,9 +13,11 @@ use Rattle.node_host.specs.declared.fault.HostFault.TheVariants.{DiskFailed, Dam
 use Rattle.node_host.specs.declared.host.Opened.{Opened}
 use Rattle.node_host.specs.Journals.{HoldsBatches, IsJournal, head_for}
 use Rattle.node_host.specs.Opening.{IsDamagedAt, IsHead, IsNone}
-use Rattle.node_host.specs.Openings.{BeginsWith, EndAlike, GivesHeld, IsDecided, Opens}
+use Rattle.node_host.specs.Kept.{GivesLog, IsDecidedLog, kept_log}
+use Rattle.node_host.specs.Openings.{BeginsWith, EndAlike, GivesHeld, IsDecided, IsRefusal, Opens, Stops}
 use Rattle.node_host.proofs.Damages.{not_damaged, not_none, own_head}
-use Rattle.node_host.proofs.Standing.{read_none}
+use Rattle.node_host.proofs.Holdings.{holding_is_one}
+use Rattle.node_host.proofs.Standing.{read_none, stops_opening}
 
 no_more : (payloads rest : List (List ℕ)) (payload : List ℕ) → [] ≡ payloads ++ payload ∷ rest → ⊥
 no_more [] rest payload is = absurd (let clash : [] ≡ payload ∷ rest = is in cc)
@@ -161,3 +164,35 @@ module _ (reading : OneReading) (frame : OneFrame) (nowhere_none : NoFrame) (nex
   one_end limit bytes (Ok opened) (Err fault) ends ends' gives gives' decided decided' = not_refused limit bytes ends.0 fault ends.1 ends.2 decided' ends'
   one_end limit bytes (Err fault) (Ok opened) ends ends' gives gives' decided decided' = not_refused limit bytes ends'.0 fault ends'.1 ends'.2 decided ends
   one_end limit bytes (Err fault) (Err other) ends ends' gives gives' decided decided' = same_fault limit bytes fault other ends ends' decided decided'
+
+  -- a refusal is decided by the bytes
+  refusal_decides : (fault : HostFault) → IsRefusal fault → IsDecided (Err fault)
+  refusal_decides DiskFailed is = is
+  refusal_decides (Damaged at) is = tt
+  refusal_decides JournalFull is = tt
+  refusal_decides (WrongPlan kept given) is = tt
+  refusal_decides (WrongSite kept given) is = tt
+  refusal_decides NoMemory is = is
+
+  -- a journal that is refused gives no records, and is refused alike
+  refused_alike : (bytes : List ℕ) (fault : HostFault) (other : Result (List Record) HostFault) → IsRefusal fault → Stops plan site bytes fault → GivesLog plan site bytes other
+      → IsDecidedLog other → Err fault ≡ other
+  refused_alike bytes fault (Ok records) refusal stops gives decided =
+      absurd (not_refused 40 bytes gives.0 fault gives.1 (λ none. omega arith) (refusal_decides fault refusal) (stops_opening plan site 40 bytes fault stops))
+  refused_alike bytes fault (Err other) refusal stops gives decided =
+      ap Err (same_fault 40 bytes fault other (stops_opening plan site 40 bytes fault stops) (stops_opening plan site 40 bytes other gives)
+      (refusal_decides fault refusal) (refusal_decides other decided))
+
+  -- what gives records is what the bytes decide
+  pub one_log : OneList → (bytes : List ℕ) (result decided : Result (List Record) HostFault) → GivesLog plan site bytes result → GivesLog plan site bytes decided → IsDecidedLog decided
+      → (result ≡ decided) ⊎ IsErrOf result DiskFailed ⊎ IsErrOf result NoMemory
+  one_log one bytes (Ok records) (Ok others) gives gives' is =
+      let same : gives.0 ≡ gives'.0 = holding_is_one one plan site bytes gives.0 gives'.0 gives.1 gives'.1 in
+      inl (ap Ok (gives.2 ∙ ap (λ bs. kept_log plan site bs) same ∙ sym gives'.2))
+  one_log one bytes (Ok records) (Err fault) gives gives' is = inl (sym (refused_alike bytes fault (Ok records) is gives' gives tt))
+  one_log one bytes (Err DiskFailed) decided gives gives' is = inr (inl refl)
+  one_log one bytes (Err (Damaged at)) decided gives gives' is = inl (refused_alike bytes (Damaged at) decided tt gives gives' is)
+  one_log one bytes (Err JournalFull) decided gives gives' is = absurd gives
+  one_log one bytes (Err (WrongPlan kept given)) decided gives gives' is = inl (refused_alike bytes (WrongPlan kept given) decided tt gives gives' is)
+  one_log one bytes (Err (WrongSite kept given)) decided gives gives' is = inl (refused_alike bytes (WrongSite kept given) decided tt gives gives' is)
+  one_log one bytes (Err NoMemory) decided gives gives' is = inr (inr refl)

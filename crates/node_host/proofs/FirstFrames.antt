@@ -1,5 +1,5 @@
 -- What the first gate of a journal leads to.
-use Rattle.std.proofs.Common.{◌≡◌, ◌∙◌, refl, sym, subst, inl, ℕ, List, [], Ok, Err, Option, Some, None, IfSome}
+use Rattle.std.proofs.Common.{◌≡◌, ◌∙◌, ap, refl, sym, subst, inl, ℕ, List, [], slice_index, Ok, Err, Option, Some, None, IfSome}
 use Rattle.std.specs.Option.{ForSome}
 use Rattle.helios_model.specs.Plans.{PlanData}
 use Rattle.disk_store.specs.Disk.{DiskState}
@@ -8,21 +8,21 @@ use Rattle.disk_store.specs.Laws.Moments.{Past, moments_start}
 use Rattle.node_journal.specs.Frames.{HoldsFrame, IsReadTo, LeadsNowhere}
 use Rattle.node_journal.specs.Positions.{Position}
 use Rattle.node_journal.specs.Reading.{Finds, ReadsOn}
-use Rattle.node_journal.specs.declared.reading.Found.TheVariants.{Frame}
+use Rattle.node_journal.specs.declared.reading.Found.TheVariants.{Frame, Last}
 use Rattle.node_journal.specs.declared.fault.JournalFault.{JournalFault}
 use Rattle.node_journal.specs.declared.fault.JournalFault.TheVariants as faults
 use Rattle.node_host.specs.Faults.{passed}
 use Rattle.node_host.specs.Fresh.{HasFirst, IsBegun}
 use Rattle.node_host.specs.Journals.{KeepsBatches}
-use Rattle.node_host.specs.Openings.{Opens}
+use Rattle.node_host.specs.Openings.{Stops}
 use Rattle.node_host.proofs.Holdings.{payloads_keep}
 use Rattle.node_host.proofs.Standing.{read_none, rest_payloads}
 
 -- the first gate was not read, or leads nowhere
-fault_ends : (plan : PlanData) (site limit : ℕ) (here : Position) (disk : DiskState) (fault : JournalFault) → here.gate ≡ 0 → IsBegun disk
-    → Finds disk.bytes here (Err fault) → Opens plan site limit disk.bytes (Err (passed fault))
-fault_ends plan site limit here disk faults.DiskFailed zero begun why = tt
-fault_ends plan site limit here disk (faults.Damaged at) zero begun why =
+fault_stops : (plan : PlanData) (site : ℕ) (here : Position) (disk : DiskState) (fault : JournalFault) → here.gate ≡ 0 → IsBegun disk
+    → Finds disk.bytes here (Err fault) → Stops plan site disk.bytes (passed fault)
+fault_stops plan site here disk faults.DiskFailed zero begun why = tt
+fault_stops plan site here disk (faults.Damaged at) zero begun why =
     let first : at ≡ 0 = why.0 ∙ zero in
     let nowhere : LeadsNowhere disk.bytes 0 = subst (λ (n : ℕ). LeadsNowhere disk.bytes n) zero why.1 in (
       begun.long nowhere.is_open,
@@ -34,13 +34,19 @@ fault_ends plan site limit here disk (faults.Damaged at) zero begun why =
         damage = inl (subst (λ (n : ℕ). LeadsNowhere disk.bytes n) (sym first) nowhere);
       },
     )
-fault_ends plan site limit here disk faults.JournalFull zero begun why = absurd why
-fault_ends plan site limit here disk faults.NoMemory zero begun why = tt
+fault_stops plan site here disk faults.JournalFull zero begun why = why
+fault_stops plan site here disk faults.NoMemory zero begun why = tt
 
-pub ends_unread : (plan : PlanData) (site limit : ℕ) (here : Position) (fault : JournalFault) (state : Option DiskState) → here.gate ≡ 0 → ForSome state IsBegun
-    → IfSome state (λ d. Finds d.bytes here (Err fault)) → IfSome state (λ d. Opens plan site limit d.bytes (Err (passed fault)))
-ends_unread plan site limit here fault None zero begun why = tt
-ends_unread plan site limit here fault (Some d) zero begun why = fault_ends plan site limit here d fault zero (begun d refl) why
+pub stops_unread : (plan : PlanData) (site : ℕ) (here : Position) (fault : JournalFault) (state : Option DiskState) → here.gate ≡ 0 → ForSome state IsBegun
+    → IfSome state (λ d. Finds d.bytes here (Err fault)) → IfSome state (λ d. Stops plan site d.bytes (passed fault))
+stops_unread plan site here fault None zero begun why = tt
+stops_unread plan site here fault (Some d) zero begun why = fault_stops plan site here d fault zero (begun d refl) why
+
+-- the gate at which a journal holds nothing is not open
+pub last_is_closed : (here : Position) (journal : Position) (state : Option DiskState) (P : Type 0) → here.gate ≡ 0
+    → IfSome state (λ d. Finds d.bytes here (Ok (Last journal))) → IfSome state (λ d. slice_index d.bytes 0 ≡ 1 → P)
+last_is_closed here journal None P zero found = tt
+last_is_closed here journal (Some d) P zero found = λ is_open. absurd (found.1 (ap (λ (n : ℕ). slice_index d.bytes n) zero ∙ is_open))
 
 -- a disk at rest that stayed as it was
 pub moments_stay : (plan : PlanData) (site : ℕ) (past past' : Past) (old new : Option DiskState) → new ≡ old → past' ≡ past → ForSome old IsBegun

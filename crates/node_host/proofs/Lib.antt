@@ -16,3 +16,4 @@ pub mod Damages
 pub mod Endings
 pub mod Stopped
 pub mod Readying
+pub mod Logs

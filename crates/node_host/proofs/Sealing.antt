@@ -207,14 +207,19 @@ module _ (law : ReadAgain) (host : HostState) (entries : List Entry) (few : leng
 -- ---- a host by what it is made of
 
 module _ (host view : HostState) (is : view ≡ host) where
+  pub made_payloads : (entries : List Entry) (past past' : Past) (old new : Option DiskState)
+      → IfSome old (λ d. (payloads : List (List ℕ)) → EndsAt d.bytes view.gate payloads → AtEachMoment past past' new (λ t. EachImage t (MayHold payloads (journaled entries))))
+      → IfSome old (λ d. (payloads : List (List ℕ)) → EndsAt d.bytes host.gate payloads → AtEachMoment past past' new (λ t. EachImage t (MayHold payloads (journaled entries))))
+  made_payloads entries past past' old new moments =
+      subst (λ (h : HostState). IfSome old (λ d. (payloads : List (List ℕ)) → EndsAt d.bytes h.gate payloads → AtEachMoment past past' new (λ t. EachImage t (MayHold payloads (journaled entries))))) is moments
+
   pub made_moments : ReadAgain → (entries : List Entry) → length entries ≤ most_inputs → AreAsked host.core.plan host.core.site entries
       → (past past' : Past) (old new : Option DiskState) → is_some new ≡ is_some old
       → IfSome old (λ d. (payloads : List (List ℕ)) → EndsAt d.bytes view.gate payloads → AtEachMoment past past' new (λ t. EachImage t (MayHold payloads (journaled entries))))
       → IfSome old (λ d. (batches : List (List Entry)) → IsHostOn host batches d → AtEachMoment past past' new (λ t. EachImage t (λ image.
       HoldsBatches host.core.plan host.core.site batches image ⊎ HoldsBatches host.core.plan host.core.site (grown batches (journaled entries)) image)))
   made_moments law entries few asked past past' old new told moments =
-      host_moments law host entries few asked past past' old new told
-      (subst (λ (h : HostState). IfSome old (λ d. (payloads : List (List ℕ)) → EndsAt d.bytes h.gate payloads → AtEachMoment past past' new (λ t. EachImage t (MayHold payloads (journaled entries))))) is moments)
+      host_moments law host entries few asked past past' old new told (made_payloads entries past past' old new moments)
 
   -- what a core answers from nothing on
   pub made_answers : (entries items : List Entry) (core : CoreState) (none given : List Reply) (first commits : List CommitEvent) → none ≡ [] → first ≡ [] → items ≡ entries

@@ -1,18 +1,19 @@
 -- What a payload spells, and what a recovery makes of it.
-use Rattle.std.proofs.Common.{◌≡◌, ◌∙◌, ap, refl, sym, subst, ℕ, ◌+◌, ◌<◌, List, [], ◌∷◌, ◌++◌, Ok, length, All, arith, length-append, get_or}
+use Rattle.std.proofs.Common.{◌≡◌, ◌∙◌, ap, refl, sym, subst, ℕ, ◌+◌, ◌<◌, List, [], ◌∷◌, ◌++◌, Ok, Option, IfSome, length, All, arith, length-append, get_or}
 use Rattle.std.proofs.lemmas.Grind.{fold-append}
 use Rattle.std.proofs.Math.Seq.{drop-length}
 use Rattle.helios_model.specs.declared.entries.Entry.{Entry}
 use Rattle.helios_model.specs.declared.entries.Input.{Input}
 use Rattle.helios_model.specs.declared.entries.Input.TheVariants.{Get, Status, Request, Pull, Push}
-use Rattle.helios_model.specs.declared.entries.Reply.{Reply}
+use Rattle.helios_model.specs.declared.records.CommitEvent.{CommitEvent}
+use Rattle.helios_model.specs.declared.records.Record.{Record}
 use Rattle.helios_model.specs.Plans.{PlanData, count_of}
 use Rattle.helios_model.specs.Node.{Node}
 use Rattle.helios_model.specs.Spellable.{IsSpellableInput}
 use Rattle.helios_model.specs.Step.{MayBeAsked}
 use Rattle.helios_model.specs.World.{own_commits}
 use Rattle.commit_rules.specs.Core.{CoreState, IsCoreOf}
-use Rattle.node_host.specs.Answering.{HasAnswered}
+use Rattle.node_host.specs.Answering.{HasAnswered, HasRedone}
 use Rattle.node_host.specs.declared.recovery.Recovery.{Recovery}
 use Rattle.log_records.specs.Entries.{batch_of, batch_bytes, IsSpellableBatch}
 use Rattle.node_host.specs.Recovery.{first_recovered, recovered, take_batch}
@@ -64,20 +65,27 @@ pub recovered_push : (plan : PlanData) (site : ℕ) (batches : List (List Entry)
 unfolding recovered
 recovered_push plan site batches batch = fold-append (take_batch plan) (first_recovered plan site) batches (batch ∷ [])
 
--- what was recovered goes on with the batch that was answered
-pub recovers_more : (plan : PlanData) (site : ℕ) (batches : List (List Entry)) (batch : List Entry) (before after : Recovery) (replies : List Reply)
+-- what was recovered goes on with the batch that was taken again
+pub recovers_more : (plan : PlanData) (site : ℕ) (batches : List (List Entry)) (batch : List Entry) (before after : Recovery)
     → Recovers plan site batches before
-    → HasAnswered plan (recovered plan site batches).node batch after.core replies after.last
+    → HasRedone plan (recovered plan site batches).node batch after.core after.last after.log
     → after.batches ≡ before.batches + 1 → Recovers plan site (batches ++ batch ∷ []) after
-recovers_more plan site batches batch before after replies from answered one = record {
-  core = subst (λ r. IsCoreOf after.core plan r.node) (sym (recovered_push plan site batches batch)) answered.stands;
+recovers_more plan site batches batch before after from redone one = record {
+  core = subst (λ r. IsCoreOf after.core plan r.node) (sym (recovered_push plan site batches batch)) redone.answered.stands;
   number = omega (arith, one, from.number, length-append batches (batch ∷ []));
-  last = answered.committed ∙ ap (λ r. r.last) (sym (recovered_push plan site batches batch));
+  last = redone.answered.committed ∙ ap (λ r. r.last) (sym (recovered_push plan site batches batch));
+  log = subst (λ r. IfSome after.log (λ records. records ≡ r.node.log)) (sym (recovered_push plan site batches batch)) redone.logged;
 }
 
--- a core that answers nothing has answered nothing
+-- a core that takes nothing has taken nothing
 pub answered_none : (plan : PlanData) (n : Node) (core : CoreState) → IsCoreOf core plan n → HasAnswered plan n [] core [] []
 answered_none plan n core stands = record { stands = stands; replied = refl; committed = sym (none_new n) }
   where
     none_new : (n : Node) → own_commits n.site n.log (length n.log) ≡ []
     none_new n = rw drop-length refl
+
+pub redone_none : (plan : PlanData) (n : Node) (core : CoreState) (commits : List CommitEvent) (log : Option (List Record)) → IsCoreOf core plan n → commits ≡ []
+    → IfSome log (λ records. records ≡ n.log) → HasRedone plan n [] core commits log
+redone_none plan n core commits log stands none kept =
+    let first : HasAnswered plan n [] core [] [] = answered_none plan n core stands in
+    record { answered = record { stands = stands; replied = refl; committed = none ∙ first.committed }; logged = kept }

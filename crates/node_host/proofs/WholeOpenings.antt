@@ -1,5 +1,5 @@
 -- An opening, from the disk as it was given.
-use Rattle.std.proofs.Common.{◌≡◌, ◌⊎◌, refl, subst, inl, inr, ℕ, ◌<◌, ◌≤◌, nat_le, true, false, List, [], ◌∷◌, length, Result, Ok, Err, Option, Some, None, option_map, is_some, IfSome, IfOk, arith}
+use Rattle.std.proofs.Common.{◌≡◌, ◌⊎◌, ◌∙◌, ap, refl, sym, subst, inl, inr, ℕ, ◌<◌, ◌≤◌, nat_le, true, false, List, [], ◌∷◌, length, slice_index, Result, Ok, Err, Option, Some, None, option_map, is_some, IfSome, IfOk, arith}
 use Rattle.std.specs.Option.{ForSome}
 use Rattle.std.proofs.lemmas.Bool.{cases_lt}
 use Rattle.std.proofs.lemmas.Bool.Decides.{nat_tests}
@@ -10,13 +10,13 @@ use Rattle.disk_store.specs.Moments.{AtEachMoment}
 use Rattle.disk_store.specs.Laws.Moments.{Past, moments_join, moments_start, moments_weaker}
 use Rattle.disk_store.specs.Laws.Writes.{rest_image}
 use Rattle.node_journal.specs.Laws.{OneList}
-use Rattle.node_journal.specs.Opening.{KeepsPayloads, opened}
+use Rattle.node_journal.specs.Opening.{IsUnwritten, KeepsPayloads, opened}
 use Rattle.node_host.specs.declared.fault.HostFault.{HostFault}
 use Rattle.node_host.specs.declared.fault.HostFault.TheVariants.{DiskFailed, Damaged, JournalFull, WrongPlan, WrongSite, NoMemory}
 use Rattle.node_host.specs.declared.host.Opened.{Opened}
 use Rattle.node_host.specs.Hosts.{IsHostOn, IsOpened}
 use Rattle.node_host.specs.Journals.{HoldsBatches, IsJournal, KeepsBatches}
-use Rattle.node_host.specs.Openings.{Opens}
+use Rattle.node_host.specs.Openings.{IsBegunOpen, Opens}
 use Rattle.node_host.proofs.Holdings.{keeps_trans, payloads_keep}
 use Rattle.node_host.proofs.Standing.{rest_payloads}
 
@@ -81,6 +81,33 @@ module _ (plan : PlanData) (site : ℕ) where
   opened_moments_at_rest past mid (Some d) None told moments = absurd (let clash : false ≡ true = told in cc)
   opened_moments_at_rest past mid (Some d) (Some t) told moments = λ rest.
       moments_weaker (λ s. KeepsPayloads d s) (λ s. KeepsBatches plan site d s) (λ s keeps. payloads_keep plan site d s keeps) past mid t (moments rest)
+
+-- nothing was written, and no call was made since
+pub unwritten_none : (past : Past) (old : Option DiskState) → IfSome old (λ d. IsBegunOpen d.bytes → AtEachMoment past past old (IsUnwritten d))
+unwritten_none past None = tt
+unwritten_none past (Some d) = λ begun. moments_start (IsUnwritten d) past d (inl refl)
+
+pub unwritten_begun : (past mid : Past) (old now : Option DiskState) → IfSome old (λ d. 1 < length d.bytes → AtEachMoment past mid now (IsUnwritten d))
+    → IfSome old (λ d. IsBegunOpen d.bytes → AtEachMoment past mid now (IsUnwritten d))
+unwritten_begun past mid None now moments = tt
+unwritten_begun past mid (Some d) now moments = λ begun. moments begun.long
+
+-- a journal of more than one byte is read where it was opened
+opened_long : (bytes : List ℕ) → 1 < length bytes → opened bytes ≡ bytes
+opened_long bytes long = let test : nat_le (length bytes) 1 ≡ false = grind (arith, nat_tests) in rw test
+
+-- nor behind it, where the first gate is open
+pub unwritten_whole : (past mid past' : Past) (old now new : Option DiskState) → now ≡ option_map (λ d. at_rest (opened d.bytes)) old
+    → IfSome old (λ d. 1 < length d.bytes → AtEachMoment past mid now (IsUnwritten d))
+    → IfSome now (λ d. slice_index d.bytes 0 ≡ 1 → (new ≡ now) × (past' ≡ mid))
+    → IfSome old (λ d. IsBegunOpen d.bytes → AtEachMoment past past' new (IsUnwritten d))
+unwritten_whole past mid past' None now new opens moments stays = tt
+unwritten_whole past mid past' (Some d) now new opens moments stays = λ begun.
+    let there : slice_index (opened d.bytes) 0 ≡ 1 = ap (λ (l : List ℕ). slice_index l 0) (opened_long d.bytes begun.long) ∙ begun.is_open in
+    let stays' = subst (λ (s : Option DiskState). IfSome s (λ t. slice_index t.bytes 0 ≡ 1 → (new ≡ now) × (past' ≡ mid))) opens stays in
+    let same : (new ≡ now) × (past' ≡ mid) = stays' there in
+    subst (λ (s : Option DiskState). AtEachMoment past past' s (IsUnwritten d)) (sym same.0)
+    (subst (λ (p : Past). AtEachMoment past p now (IsUnwritten d)) (sym same.1) (moments begun.long))
 
 -- the journal was opened, and then read by a core of this site of this plan
 module _ (plan : PlanData) (site limit : ℕ) (plan' : PlanData) (site' limit' : ℕ) (of_plan : plan' ≡ plan) (at_site : site' ≡ site) (in_limit : limit' ≡ limit)

@@ -1,8 +1,9 @@
 -- What a core answers to a batch.
-use Rattle.std.specs.Prelude.{◌≡◌, List, length, map}
+use Rattle.std.specs.Prelude.{◌≡◌, List, length, map, Option, IfSome}
 use Rattle.helios_model.specs.declared.entries.Entry.{Entry}
 use Rattle.helios_model.specs.declared.entries.Reply.{Reply}
 use Rattle.helios_model.specs.declared.records.CommitEvent.{CommitEvent}
+use Rattle.helios_model.specs.declared.records.Record.{Record}
 use Rattle.helios_model.specs.Plans.{PlanData}
 use Rattle.helios_model.specs.Node.{Node}
 use Rattle.helios_model.specs.Step.{after_entries}
@@ -19,6 +20,7 @@ pub record HasAnswered (plan : PlanData) (n : Node) (entries : List Entry) (core
   pub replied : given ≡ answers plan n entries
   pub committed : commits ≡ own_commits n.site (after_entries plan n entries).log (length n.log)
 
--- the same where nobody waits for the replies
-abbrev pub HasRedone : PlanData → Node → List Entry → CoreState → List CommitEvent → Type 0
-HasRedone plan n entries core commits = HasAnswered plan n entries core (answers plan n entries) commits
+-- the same where nobody waits for the replies, and with the node's whole log where it is kept
+pub record HasRedone (plan : PlanData) (n : Node) (entries : List Entry) (core : CoreState) (commits : List CommitEvent) (log : Option (List Record)) : Type 0 where
+  pub answered : HasAnswered plan n entries core (answers plan n entries) commits
+  pub logged : IfSome log (λ records. records ≡ (after_entries plan n entries).log)

@@ -8,7 +8,7 @@ use Rattle.disk_store.specs.Disk.{DiskState, IsAtRest}
 use Rattle.node_journal.specs.Appending.{end_of}
 use Rattle.node_journal.specs.Frames.{EndsAt, StandsFor}
 use Rattle.log_records.specs.Entries.{batch_bytes}
-use Rattle.node_host.specs.Journals.{IsJournal}
+use Rattle.node_host.specs.Journals.{AreAsked, IsJournal}
 use Rattle.node_host.specs.Recovery.{recovered}
 use Rattle.node_host.specs.States.{HostState}
 use Rattle.node_host.specs.declared.host.Opened.{Opened}
@@ -53,3 +53,10 @@ pub record DoesNotFit (host : HostState) (entries : List Entry) : Type 0 where
 pub record IsOpened (plan : PlanData) (site : ℕ) (batches : List (List Entry)) (opened : Opened) : Type 0 where
   pub number : opened.batches ≡ length batches
   pub last : opened.last ≡ (recovered plan site batches).last
+
+-- whatever a disk tells: the host that was opened stands for the node that some batches of this site make
+pub record StandsForSome (plan : PlanData) (site : ℕ) (opened : Opened) : Type 0 where
+  pub batches : List (List Entry)
+  pub asked : All (AreAsked plan site) batches
+  pub number_and_last : IsOpened plan site batches opened
+  pub node : IsCoreOf opened.host.core plan (recovered plan site batches).node

@@ -1,6 +1,7 @@
 -- Facts that follow from the definitions alone; each is the clause of a function of `laws`.
 use Rattle.std.specs.Prelude.{◌≡◌, ◌⊎◌, ◌≤◌, ℕ, nat_le, if◌then◌else◌, List, [], ◌∷◌, ◌++◌, length, Some, Err, option_map, Result, IfSome, IsErrOf}
 use Rattle.helios_model.specs.declared.entries.Entry.{Entry}
+use Rattle.helios_model.specs.declared.records.Record.{Record}
 use Rattle.helios_model.specs.Node.{Node}
 use Rattle.helios_model.specs.Plans.{PlanData}
 use Rattle.helios_model.specs.Step.{after_entries}
@@ -19,6 +20,7 @@ use Rattle.node_host.specs.declared.host.Batched.{Batched}
 use Rattle.node_host.specs.declared.host.Opened.{Opened}
 use Rattle.node_host.specs.Hosts.{HaveReadings, IsHostOn, payload_of}
 use Rattle.node_host.specs.Journals.{AreAsked, HoldsBatches, IsBatchPayload, IsHeadOf, IsJournal, KeepsBatches, journal_size}
+use Rattle.node_host.specs.Kept.{GivesLog, IsDecidedLog}
 use Rattle.node_host.specs.Openings.{EndAlike, GivesHeld, IsDecided, Opens}
 use Rattle.node_host.specs.Recovery.{recovered, take_batch}
 use Rattle.node_host.specs.States.{HostState}
@@ -73,6 +75,11 @@ abbrev pub OneEnd : Type 0
 OneEnd = (plan : PlanData) (site limit : ℕ) (bytes : List ℕ) (result other : Result Opened HostFault) → Opens plan site limit bytes result
     → Opens plan site limit bytes other → GivesHeld plan site bytes result → GivesHeld plan site bytes other → IsDecided result → IsDecided other
     → EndAlike result other
+
+-- what a disk reads as decides which records it gives
+abbrev pub OneLog : Type 0
+OneLog = (plan : PlanData) (site : ℕ) (bytes : List ℕ) (result decided : Result (List Record) HostFault) → GivesLog plan site bytes result
+    → GivesLog plan site bytes decided → IsDecidedLog decided → (result ≡ decided) ⊎ IsErrOf result DiskFailed ⊎ IsErrOf result NoMemory
 
 -- A disk in memory, whose script stopped one of the four calls of a batch, crashed: it holds the batches before, or these and the new one, by the
 -- number of the call and by what the crash keeps. The premises on the batch are its clauses `readings`, `failed` and `keeps`.

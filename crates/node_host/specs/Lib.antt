@@ -7,4 +7,5 @@ pub mod States
 pub mod Fresh
 pub mod Hosts
 pub mod Openings
+pub mod Kept
 pub mod Laws

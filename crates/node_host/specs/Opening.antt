@@ -1,5 +1,5 @@
 -- What an opening finds in a journal, and what it leaves.
-use Rattle.std.specs.Prelude.{◌≡◌, ◌≢◌, ◌⊎◌, ℕ, ◌++◌, List, [], ◌∷◌, length, slice_index, Ok}
+use Rattle.std.specs.Prelude.{◌≡◌, ◌≢◌, ◌⊎◌, ℕ, ◌++◌, List, [], ◌∷◌, All, IfSome, length, slice_index, Ok}
 use Rattle.helios_model.specs.declared.entries.Entry.{Entry}
 use Rattle.helios_model.specs.declared.entries.Input.{Input}
 use Rattle.helios_model.specs.declared.entries.Input.TheVariants.{Get, Status, Request, Pull, Push}
@@ -13,18 +13,25 @@ use Rattle.node_host.specs.declared.fault.HostFault.{HostFault}
 use Rattle.node_host.specs.declared.fault.HostFault.TheVariants.{DiskFailed, Damaged, JournalFull, WrongPlan, WrongSite, NoMemory}
 use Rattle.node_host.specs.declared.recovery.Recovery.{Recovery}
 use Rattle.node_host.specs.Recovery.{recovered}
-use Rattle.node_host.specs.Journals.{IsBatchPayload, IsJournal}
+use Rattle.node_host.specs.Journals.{AreAsked, IsBatchPayload, IsJournal}
 
 -- a head of the one form that there is
 pub record IsHead (payload : List ℕ) (head : Head) : Type 0 where
   pub read : head_of payload ≡ Ok head
   pub form : head.version ≡ 1
 
--- a core for the node after these batches, their number, and the own Commits of the last one
+-- a core for the node after these batches, their number, the own Commits of the last one, and the node's log where it is kept
 pub record Recovers (plan : PlanData) (site : ℕ) (batches : List (List Entry)) (recovery : Recovery) : Type 0 where
   pub core : IsCoreOf recovery.core plan (recovered plan site batches).node
   pub number : recovery.batches ≡ length batches
   pub last : recovery.last ≡ (recovered plan site batches).last
+  pub log : IfSome recovery.log (λ records. records ≡ (recovered plan site batches).node.log)
+
+-- whatever a disk tells: what was recovered is what some batches of this site make
+pub record IsRecovered (plan : PlanData) (site : ℕ) (recovery : Recovery) : Type 0 where
+  pub batches : List (List Entry)
+  pub asked : All (AreAsked plan site) batches
+  pub recovers : Recovers plan site batches recovery
 
 -- a payload that was taken is a batch, and what was recovered goes on with it
 pub record TakesBatch (plan : PlanData) (site : ℕ) (payload : List ℕ) (before after : Recovery) : Type 0 where

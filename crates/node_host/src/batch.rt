@@ -18,6 +18,7 @@ ghost use Rattle.node_host.specs.Answering.{HasAnswered};
 ghost use Rattle.node_journal.specs.Frames.{EndsAt};
 ghost use Rattle.node_host.specs.Hosts.{DoesNotFit, HaveReadings, IsEndOf, IsHostOn, MayHold, payload_of, with_payload};
 ghost use Rattle.node_host.specs.Journals.{AreAsked, HoldsBatches, frame_size};
+ghost use Rattle.node_journal.specs.Devices.{SameRoom, StaysQuiet};
 
 use crate::HostFault;
 use crate::answering::Answered;
@@ -60,13 +61,13 @@ fn append_batch<D: Disk>(
         D.outlook disk.new ≡ Some (spent (end_of journal.gate (payload_of entries.now)) o)) }
     ensures image { IfSome (D.state disk.new) (λ d. (D.state disk.new ≡ D.state disk.old) ⊎ IsImage d d.bytes) }
     ensures told { is_some (D.state disk.new) ≡ is_some (D.state disk.old) }
-    ensures room { option_map (λ o. o.room) (D.outlook disk.new) ≡ option_map (λ o. o.room) (D.outlook disk.old) }
+    ensures room { SameRoom (D.outlook disk.old) (D.outlook disk.new) }
     ensures keeps { D.keeps disk.new ≡ D.keeps disk.old }
     ensures later { D.faults disk.old ≤ D.faults disk.new }
     ensures count { IsCount (D.faults disk.old) → IsCount (D.faults disk.new) }
     ensures steady { IsErrOf result HostFault.DiskFailed ⊎ (D.faults disk.new ≡ D.faults disk.old) }
     ensures cause { IsErrOf result HostFault.DiskFailed → Rose (D.faults disk.old) (D.faults disk.new) }
-    ensures quiet { IfSome (D.outlook disk.old) (λ o. o.failing ≡ never → D.outlook disk.new ≡ Some o) }
+    ensures quiet { StaysQuiet (D.outlook disk.old) (D.outlook disk.new) }
 {
     let payload = encode_journaled(alloc, entries)?;
     let frame = Framed::new(payload)?;
@@ -108,13 +109,13 @@ fn seal<D: Disk>(
         D.outlook disk.new ≡ Some (spent (end_of journal.gate (payload_of entries.now)) o)) }
     ensures image { IfSome (D.state disk.new) (λ d. (D.state disk.new ≡ D.state disk.old) ⊎ IsImage d d.bytes) }
     ensures told { is_some (D.state disk.new) ≡ is_some (D.state disk.old) }
-    ensures room { option_map (λ o. o.room) (D.outlook disk.new) ≡ option_map (λ o. o.room) (D.outlook disk.old) }
+    ensures room { SameRoom (D.outlook disk.old) (D.outlook disk.new) }
     ensures keeps { D.keeps disk.new ≡ D.keeps disk.old }
     ensures later { D.faults disk.old ≤ D.faults disk.new }
     ensures count { IsCount (D.faults disk.old) → IsCount (D.faults disk.new) }
     ensures steady { IsErrOf result HostFault.DiskFailed ⊎ (D.faults disk.new ≡ D.faults disk.old) }
     ensures cause { IsErrOf result HostFault.DiskFailed → Rose (D.faults disk.old) (D.faults disk.new) }
-    ensures quiet { IfSome (D.outlook disk.old) (λ o. o.failing ≡ never → D.outlook disk.new ≡ Some o) }
+    ensures quiet { StaysQuiet (D.outlook disk.old) (D.outlook disk.new) }
 {
     if journaled_count(entries) == 0 {
         return Ok(journal);
@@ -152,6 +153,10 @@ impl Host {
             → AtEachMoment (D.past disk.old) (D.past disk.new) (D.state disk.new) (λ t. EachImage t (λ image.
             HoldsBatches self.core.plan self.core.site batches image ⊎ HoldsBatches self.core.plan self.core.site (grown batches (journaled entries)) image))) }
 
+        // The same of payloads: those before, or these and that of the batch.
+        ensures any_payloads { IfSome (D.state disk.old) (λ d. (payloads : List (List ℕ)) → EndsAt d.bytes self.gate payloads
+            → AtEachMoment (D.past disk.old) (D.past disk.new) (D.state disk.new) (λ t. EachImage t (MayHold payloads (journaled entries)))) }
+
         ensures readings { IsErrOf result HostFault.NoMemory ⊎ HaveReadings (journaled entries) }
         ensures idle { journaled entries ≡ [] → disk.new ≡ disk.old }
         ensures asked { IsErrOf result HostFault.DiskFailed → 1 ≤ length (journaled entries) }
@@ -173,13 +178,13 @@ impl Host {
         // At each exit the disk reads as one of its images, and tells what it told.
         ensures image { IfSome (D.state disk.new) (λ d. (D.state disk.new ≡ D.state disk.old) ⊎ IsImage d d.bytes) }
         ensures told { is_some (D.state disk.new) ≡ is_some (D.state disk.old) }
-        ensures room { option_map (λ o. o.room) (D.outlook disk.new) ≡ option_map (λ o. o.room) (D.outlook disk.old) }
+        ensures room { SameRoom (D.outlook disk.old) (D.outlook disk.new) }
         ensures keeps { D.keeps disk.new ≡ D.keeps disk.old }
         ensures later { D.faults disk.old ≤ D.faults disk.new }
         ensures count { IsCount (D.faults disk.old) → IsCount (D.faults disk.new) }
         ensures steady { IsErrOf result HostFault.DiskFailed ⊎ (D.faults disk.new ≡ D.faults disk.old) }
         ensures cause { IsErrOf result HostFault.DiskFailed → Rose (D.faults disk.old) (D.faults disk.new) }
-        ensures quiet { IfSome (D.outlook disk.old) (λ o. o.failing ≡ never → D.outlook disk.new ≡ Some o) }
+        ensures quiet { StaysQuiet (D.outlook disk.old) (D.outlook disk.new) }
     {
         batches_are_read_again();
         let Host {

@@ -9,6 +9,7 @@ ghost use Rattle.node_journal.specs.Appending.{IsReady, IsBeforeOrAfter};
 ghost use Rattle.node_journal.specs.Frames.{IsReadTo};
 ghost use Rattle.log_records.specs.Heads.{head_bytes, head_of};
 ghost use Rattle.node_host.specs.Opening.{LeavesHead, RefusesHead};
+ghost use Rattle.node_journal.specs.Devices.{SameRoom, StaysQuiet};
 
 use crate::HostFault;
 use disk_store::Disk;
@@ -22,10 +23,10 @@ use std::alloc::Global;
 pub(crate) fn test_head(
     fingerprint: [u8; 32],
     site: SiteId,
-    payload: Bytes,
+    payload: &Bytes,
 ) -> Result<(), HostFault>
-    ensures head { OnOk result (head_of payload ≡ Ok (record { version = 1; fingerprint = fingerprint; site = site })) }
-    ensures none { IfErr result (RefusesHead fingerprint site payload) }
+    ensures head { OnOk result (head_of payload.now ≡ Ok (record { version = 1; fingerprint = fingerprint; site = site })) }
+    ensures none { IfErr result (RefusesHead fingerprint site payload.now) }
 {
     let head = match decode_head(payload.items()) {
         Ok(head) => head,
@@ -71,13 +72,13 @@ pub(crate) fn make_head<D: Disk>(
     ensures untouched { IsErrOf result HostFault.JournalFull → disk.new ≡ disk.old }
     ensures image { IfSome (D.state disk.new) (λ d. (D.state disk.new ≡ D.state disk.old) ⊎ IsImage d d.bytes) }
     ensures told { is_some (D.state disk.new) ≡ is_some (D.state disk.old) }
-    ensures room { option_map (λ o. o.room) (D.outlook disk.new) ≡ option_map (λ o. o.room) (D.outlook disk.old) }
+    ensures room { SameRoom (D.outlook disk.old) (D.outlook disk.new) }
     ensures later { D.faults disk.old ≤ D.faults disk.new }
     ensures keeps { D.keeps disk.new ≡ D.keeps disk.old }
     ensures count { IsCount (D.faults disk.old) → IsCount (D.faults disk.new) }
     ensures steady { IsErrOf result HostFault.DiskFailed ⊎ (D.faults disk.new ≡ D.faults disk.old) }
     ensures cause { IsErrOf result HostFault.DiskFailed → Rose (D.faults disk.old) (D.faults disk.new) }
-    ensures quiet { IfSome (D.outlook disk.old) (λ o. o.failing ≡ never → D.outlook disk.new ≡ Some o) }
+    ensures quiet { StaysQuiet (D.outlook disk.old) (D.outlook disk.new) }
     ensures failed { IfSome (D.outlook disk.old) (λ o. IsErrOf result HostFault.DiskFailed → (o.failing ≢ never) ⊎ (o.room < 40)) }
 {
     let head = Head {

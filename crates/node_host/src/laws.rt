@@ -1,5 +1,5 @@
 // Each law states what follows from the definitions alone.
-ghost use Rattle.node_host.specs.Laws.{BatchesArePushed, CommitsAreJoined, HeadKeeps, HostStandsAtItsEnd, JournaledSuffice, OneEnd, OneHolding, OwnJournalOpens, RecoveredGoesOn, RecoveredIsNode, StoppedBatch};
+ghost use Rattle.node_host.specs.Laws.{BatchesArePushed, CommitsAreJoined, HeadKeeps, HostStandsAtItsEnd, JournaledSuffice, OneEnd, OneHolding, OneLog, OwnJournalOpens, RecoveredGoesOn, RecoveredIsNode, StoppedBatch};
 
 use log_records::{batches_are_read_again, no_batch_is_longer, what_is_read_is_a_batch};
 use node_journal::laws::{
@@ -61,6 +61,18 @@ pub fn an_own_journal_is_opened()
 pub fn one_end()
     ensures { OneEnd }
 {
+    one_reading();
+    one_frame();
+    no_frame();
+    next_of_list();
+    no_list();
+}
+
+/// What a disk reads as decides which records it gives: where no call fails and there is memory, these or this fault and no other.
+pub fn one_log()
+    ensures { OneLog }
+{
+    one_list();
     one_reading();
     one_frame();
     no_frame();

@@ -9,6 +9,7 @@ mod fault;
 mod fresh;
 mod heading;
 mod host;
+mod kept;
 mod laws;
 mod open;
 mod opening;
@@ -18,8 +19,9 @@ mod redoing;
 pub use batch::frame_length;
 pub use fault::HostFault;
 pub use host::{Batched, Host, Opened};
+pub use kept::kept_records;
 pub use laws::{
     a_host_stands_at_its_end, a_stopped_batch, an_own_journal_is_opened, batches_are_pushed,
-    commits_are_joined, journaled_entries_suffice, one_end, one_holding, what_a_head_keeps,
-    what_is_recovered_goes_on, what_is_recovered_is_the_node,
+    commits_are_joined, journaled_entries_suffice, one_end, one_holding, one_log,
+    what_a_head_keeps, what_is_recovered_goes_on, what_is_recovered_is_the_node,
 };

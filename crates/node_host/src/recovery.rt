@@ -1,5 +1,5 @@
 //! What the batches of a journal make of the empty node.
-ghost use Rattle.std.specs.Prelude.{◌≡◌, ◌+◌, ◌^◌, ◌<◌, ◌≤◌, ◌↔◌, [], IsTrue, All, IfOk, IfErr};
+ghost use Rattle.std.specs.Prelude.{◌≡◌, ◌+◌, ◌^◌, ◌<◌, ◌≤◌, ◌↔◌, [], IsTrue, All, IfOk, IfErr, is_some};
 ghost use Rattle.helios_model.specs.declared.entries.Entry.{Entry};
 ghost use Rattle.helios_model.specs.Limits.{most_sites};
 ghost use Rattle.helios_model.specs.Plans.{PlanData, count_of};
@@ -9,16 +9,17 @@ ghost use Rattle.node_host.specs.Opening.{IsForSite, RefusesBatch, TakesBatch};
 use crate::HostFault;
 use crate::redoing::Redoing;
 use commit_rules::Core;
-use helios_model::{Bytes, Commits, Entries, Entry, Input, SiteId};
+use helios_model::{Bytes, Commits, Entries, Entry, Input, Records, SiteId};
 use log_records::{DecodeFault, decode_batch, what_is_read_is_a_batch};
 use std::alloc::Global;
 
-/// A core for the node after some batches, their number, and the own Commits of the last one.
+/// A core for the node after some batches, their number, the own Commits of the last one, and the node's whole log where it is kept.
 #[derive(Drop)]
 pub(crate) struct Recovery {
     pub(crate) core: Core,
     pub(crate) batches: u64,
     pub(crate) last: Commits,
+    pub(crate) log: Option<Records>,
 }
 
 /// Whether an input is for this site: a message to another one, or a message for this one.
@@ -50,11 +51,11 @@ fn read_batch(
     count: u8,
     site: SiteId,
     at: u64,
-    payload: Bytes,
+    payload: &Bytes,
 ) -> Result<Entries, HostFault>
     requires { count ≤ most_sites }
-    ensures batch { IfOk result (λ entries. (plan : PlanData) → count_of plan ≡ count → IsBatchPayload plan site payload entries) }
-    ensures none { IfErr result (λ fault. (plan : PlanData) → count_of plan ≡ count → RefusesBatch plan site at payload fault) }
+    ensures batch { IfOk result (λ entries. (plan : PlanData) → count_of plan ≡ count → IsBatchPayload plan site payload.now entries) }
+    ensures none { IfErr result (λ fault. (plan : PlanData) → count_of plan ≡ count → RefusesBatch plan site at payload.now fault) }
 {
     what_is_read_is_a_batch();
     let bytes = payload.items();
@@ -70,9 +71,10 @@ fn read_batch(
 }
 
 impl Recovery {
-    /// This core, and no batch yet.
-    pub(crate) fn new(alloc: Global, core: Core) -> Recovery
+    /// This core, and no batch yet; with a log that is begun, or without one.
+    pub(crate) fn new(alloc: Global, core: Core, log: Option<Records>) -> Recovery
         ensures core { result.core ≡ core }
+        ensures log { result.log ≡ log }
         ensures none { result.batches ≡ 0 }
         ensures last { result.last ≡ [] }
     {
@@ -80,6 +82,7 @@ impl Recovery {
             core,
             batches: 0,
             last: Commits::new(Vec::new(alloc)),
+            log,
         }
     }
 
@@ -91,14 +94,15 @@ impl Recovery {
         count: u8,
         site: SiteId,
         at: u64,
-        payload: Bytes,
+        payload: &Bytes,
     ) -> Result<Recovery, HostFault>
         requires few { count ≤ most_sites }
         requires count { count_of self.core.plan ≡ count }
         requires site { self.core.site ≡ site }
         requires room { self.batches + 1 < 2 ^ 64 }
-        ensures takes { IfOk result (λ after. TakesBatch self.core.plan site payload self after) }
-        ensures none { IfErr result (λ fault. RefusesBatch self.core.plan site at payload fault) }
+        ensures takes { IfOk result (λ after. TakesBatch self.core.plan site payload.now self after) }
+        ensures none { IfErr result (λ fault. RefusesBatch self.core.plan site at payload.now fault) }
+        ensures kept { IfOk result (λ after. is_some after.log ≡ is_some self.log) }
         ensures plan { IfOk result (λ after. after.core.plan ≡ self.core.plan) }
         ensures site { IfOk result (λ after. after.core.site ≡ self.core.site) }
         ensures number { IfOk result (λ after. after.batches ≡ self.batches + 1) }
@@ -107,12 +111,14 @@ impl Recovery {
         let redoing = Redoing {
             core: self.core,
             commits: Vec::new(alloc),
+            log: self.log,
         };
-        let Redoing { core, commits } = redoing.redo_all(entries.into_items())?;
+        let Redoing { core, commits, log } = redoing.redo_all(entries.into_items())?;
         Ok(Recovery {
             core,
             batches: self.batches + 1,
             last: Commits::new(commits),
+            log,
         })
     }
 }

@@ -1,13 +1,15 @@
-use Rattle.std.proofs.Common.{◌≡◌, ◌-◌, ◌^◌, ◌<◌, Some, length, option_map, IfSome}
+use Rattle.std.proofs.Common.{◌≡◌, ◌-◌, ◌^◌, ◌<◌, Some, is_some, length, option_map, IfSome}
 use Rattle.std.specs.Option.{ForSome}
 use Rattle.disk_store.specs.Outlook.{never}
-use Rattle.node_host.specs.Opening.{HasRead}
+use Rattle.node_host.specs.Opening.{HasRead, IsRecovered}
 use Rattle.node_host.proofs.opening.recover.Given as goal
 
 abbrev pub invariant-frames : goal.invariant-frames
 invariant-frames g l = record {
   here : ForSome (g.D.Disk.state l.disk) (λ d. l.reading.gate < length d.bytes);
   read : IfSome (g.D.Disk.state l.initial.disk) (λ d. HasRead l.fn.first.core.plan l.site d.bytes l.initial.reading.gate l.fn.first → HasRead l.fn.first.core.plan l.site d.bytes l.reading.gate l.recovery);
+  recovered : IsRecovered l.fn.first.core.plan l.site l.fn.first → IsRecovered l.fn.first.core.plan l.site l.recovery;
+  kept : is_some l.recovery.log ≡ is_some l.fn.first.log;
   plan : l.recovery.core.plan ≡ l.fn.first.core.plan;
   site : l.recovery.core.site ≡ l.site;
   limit : l.reading.limit ≡ l.initial.reading.limit;

@@ -1,5 +1,5 @@
 use Rattle.std.proofs.Common.{◌∙◌, refl, arith}
-use Rattle.node_host.proofs.Beginning.{begun_ends, begun_moments, begun_stands}
+use Rattle.node_host.proofs.Beginning.{begun_ends, begun_for_some, begun_moments, begun_stands}
 use Rattle.node_host.proofs.fresh.Fresh.begin.Goals as goal
 
 pub returns-in_err-journal-clause-any_moment : goal.returns-in_err-journal-clause-any_moment
@@ -19,6 +19,12 @@ returns-clause-stands g c =
     begun_stands c.args.self c.self.inside.core c.self.inside.fingerprint c.self.inside.site c.self.inside.count (cc) c.self.invariant c.args.journal.limit c.args.journal.gate
     c.one_list.ensures c.heads_are_read_again.ensures (omega arith) (omega arith) c.requires.first (g.D.Disk.state c.args.disk.now) c.requires.ready
     _ (g.D.Disk.state c.make_head.new.disk) c.in_ok-journal.ensures.made refl refl (c.new-2.ensures ∙ c.new.ensures.items)
+
+pub returns-clause-node : goal.returns-clause-node
+returns-clause-node g c =
+    begun_for_some c.args.self c.self.inside.core c.self.inside.fingerprint c.self.inside.site c.self.inside.count (cc) c.self.invariant c.args.journal.limit c.args.journal.gate
+    c.one_list.ensures c.heads_are_read_again.ensures (omega arith) (omega arith) c.requires.first (g.D.Disk.state c.args.disk.now) c.requires.ready
+    _ refl refl (c.new-2.ensures ∙ c.new.ensures.items)
 
 pub returns-clause-any_moment : goal.returns-clause-any_moment
 returns-clause-any_moment g c =

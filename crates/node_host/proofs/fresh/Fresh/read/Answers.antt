@@ -1,14 +1,16 @@
 use Rattle.std.proofs.Common.{◌∙◌}
 use Rattle.std.proofs.lemmas.Result.{err_from_is_err_and}
-use Rattle.node_host.proofs.FirstFrames.{ends_unread, first_read, moments_behind, moments_stay}
+use Rattle.node_host.proofs.FirstFrames.{first_read, last_is_closed, moments_behind, moments_stay, stops_unread}
+use Rattle.node_host.proofs.Standing.{ends_stopped}
 use Rattle.node_host.proofs.fresh.Fresh.read.Goals as goal
 
 pub returns-in_err-journal-clause-ends : goal.returns-in_err-journal-clause-ends
 returns-in_err-journal-clause-ends g c =
     let p = err_from_is_err_and c.from_residual.result c.from_residual.ensures.1 in
     rw (p.1, p.2)
-    (ends_unread c.args.self.plan c.args.self.site c.args.reading.limit c.args.reading c.in_err-journal.field-0.0 (g.D.Disk.state c.args.disk.now) c.requires.first c.requires.begun
-    c.in_err-journal.ensures.found)
+    (ends_stopped c.args.self.plan c.args.self.site c.args.reading.limit _ (g.D.Disk.state c.args.disk.now)
+    (stops_unread c.args.self.plan c.args.self.site c.args.reading c.in_err-journal.field-0.0 (g.D.Disk.state c.args.disk.now) c.requires.first c.requires.begun
+    c.in_err-journal.ensures.found))
 
 pub returns-in_err-journal-clause-any_moment : goal.returns-in_err-journal-clause-any_moment
 returns-in_err-journal-clause-any_moment g c =

@@ -2,7 +2,7 @@ use Rattle.std.proofs.Common.{refl, arith}
 use Rattle.node_host.specs.declared.fault.HostFault.TheVariants.{DiskFailed}
 use Rattle.helios_model.specs.World.{journaled}
 use Rattle.node_host.proofs.Answers.{answered_as}
-use Rattle.node_host.proofs.Sealing.{idle_moments, never_fails, passed_readings, made_answer, made_answers, made_moments, made_stands}
+use Rattle.node_host.proofs.Sealing.{idle_moments, never_fails, passed_readings, made_answer, made_answers, made_moments, made_payloads, made_stands}
 use Rattle.node_host.proofs.host.Host.batch.Goals as goal
 
 pub returns-in_err-journal-clause-any_moment : goal.returns-in_err-journal-clause-any_moment
@@ -65,3 +65,19 @@ returns-clause-failed g c = never_fails (g.D.Disk.outlook c.args.disk.now) _ Dis
 
 pub returns-clause-spent : goal.returns-clause-spent
 returns-clause-spent g c = never_fails (g.D.Disk.outlook c.args.disk.now) _ DiskFailed _
+
+pub returns-in_err-replies-clause-any_payloads : goal.returns-in_err-replies-clause-any_payloads
+returns-in_err-replies-clause-any_payloads g c =
+    idle_moments c.args.self.gate (journaled c.args.entries) (g.D.Disk.past c.args.disk.now) (g.D.Disk.state c.args.disk.now) c.requires.ready
+
+pub returns-in_err-journal-clause-any_payloads : goal.returns-in_err-journal-clause-any_payloads
+returns-in_err-journal-clause-any_payloads g c =
+    made_payloads c.args.self _ c.self.view_is c.args.entries (g.D.Disk.past c.args.disk.now) (g.D.Disk.past c.seal.new.disk) (g.D.Disk.state c.args.disk.now) (g.D.Disk.state c.seal.new.disk) c.seal.ensures.any_moment
+
+pub returns-in_err-core-clause-any_payloads : goal.returns-in_err-core-clause-any_payloads
+returns-in_err-core-clause-any_payloads g c =
+    made_payloads c.args.self _ c.self.view_is c.args.entries (g.D.Disk.past c.args.disk.now) (g.D.Disk.past c.seal.new.disk) (g.D.Disk.state c.args.disk.now) (g.D.Disk.state c.seal.new.disk) c.seal.ensures.any_moment
+
+pub returns-clause-any_payloads : goal.returns-clause-any_payloads
+returns-clause-any_payloads g c =
+    made_payloads c.args.self _ c.self.view_is c.args.entries (g.D.Disk.past c.args.disk.now) (g.D.Disk.past c.seal.new.disk) (g.D.Disk.state c.args.disk.now) (g.D.Disk.state c.seal.new.disk) c.seal.ensures.any_moment
