@@ -45,11 +45,7 @@ impl Reading {
     }
 
     /// The same, with the payload in this buffer's memory, whatever it holds.
-    pub fn next_into<D: Disk>(
-        self,
-        buffer: Vec<u8>,
-        disk: &mut D,
-    ) -> Result<Found, JournalFault>
+    pub fn next_into<D: Disk>(self, buffer: Vec<u8>, disk: &mut D) -> Result<Found, JournalFault>
         // The disk reads as the call before left it, so the gate stands there.
         requires { ForSome (D.state disk.old) (λ d. self.gate < length d.bytes) }
 
