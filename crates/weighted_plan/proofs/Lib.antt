@@ -1,8 +1,15 @@
 pub mod Additions
+pub mod Begun
 pub mod Duality
+pub mod Handed
+pub mod Joining
 pub mod Judgements
+pub mod Outcomes
 pub mod Places
 pub mod Printed
+pub mod Puts
 pub mod Readings
 pub mod Rows
+pub mod Sending
+pub mod Shifted
 pub mod Verdicts

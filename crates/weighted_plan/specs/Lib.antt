@@ -1,7 +1,12 @@
 pub mod Flows
+pub mod Growing
+pub mod Handing
 pub mod Lines
 pub mod Printing
 pub mod Reading
 pub mod Says
+pub mod Transport
+pub mod Trees
+pub mod Trips
 pub mod Verdict
 pub mod Weighted

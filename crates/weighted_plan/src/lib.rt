@@ -4,14 +4,22 @@
 //! they are printed exactly.
 #![tactic(auto)]
 
+mod cells;
 mod checking;
+mod growing;
+mod lacks;
 mod laws;
+mod planting;
 mod printing;
+mod pushing;
 mod reading;
 mod refusal;
+mod shifts;
 mod sums;
+mod tree;
 mod values;
 mod verdict;
+mod weighing;
 mod weights;
 
 pub use checking::check_weighted;
@@ -20,4 +28,5 @@ pub use printing::print_weighted;
 pub use reading::read_weights;
 pub use refusal::WeightsRefusal;
 pub use verdict::WeightedVerdict;
+pub use weighing::weigh;
 pub use weights::{Flow, Weights};
