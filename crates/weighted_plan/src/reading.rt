@@ -1,4 +1,4 @@
-ghost use Rattle.std.specs.Prelude.{◌≤◌};
+ghost use Rattle.std.specs.Prelude.{◌≡◌, ◌≤◌, IfOk, length};
 ghost use Rattle.helios_model.specs.Limits.{most_sites};
 ghost use Rattle.json_text.specs.Reading.{Gives};
 ghost use Rattle.json_text.specs.Unread.{Reads};
@@ -15,7 +15,8 @@ use std::alloc::Global;
 fn weights_in(alloc: Global, count: u8, field: &Value) -> Result<Weights, Unread>
     requires some { 1 ≤ count }
     requires few { count ≤ most_sites }
-    ensures { Reads result (weights_in count (view field.now)) }
+    ensures exact { Reads result (weights_in count (view field.now)) }
+    ensures size { IfOk result (λ weights. length weights ≡ count) }
 {
     let numbers = read_row(alloc, count as usize, field)?;
     Weights::new(numbers).ok_or(Unread::OtherForm)
@@ -25,7 +26,8 @@ fn weights_in(alloc: Global, count: u8, field: &Value) -> Result<Weights, Unread
 fn weights(alloc: Global, count: u8, value: &Value) -> Result<Weights, WeightsRefusal>
     requires some { 1 ≤ count }
     requires few { count ≤ most_sites }
-    ensures { Gives WeightsRefusal.NoMemory result (weights_at count (view value.now)) }
+    ensures exact { Gives WeightsRefusal.NoMemory result (weights_at count (view value.now)) }
+    ensures size { IfOk result (λ weights. length weights ≡ count) }
 {
     let field = value.get("weights").ok_or(WeightsRefusal::BadWeights)?;
     weights_in(alloc, count, field).map_err(|unread| unread.because(WeightsRefusal::BadWeights))
@@ -36,7 +38,8 @@ fn weights(alloc: Global, count: u8, value: &Value) -> Result<Weights, WeightsRe
 pub fn read_weights(alloc: Global, input: &[u8], count: u8) -> Result<Weights, WeightsRefusal>
     requires some { 1 ≤ count }
     requires few { count ≤ most_sites }
-    ensures { Gives WeightsRefusal.NoMemory result (weights_of_text count input.now) }
+    ensures exact { Gives WeightsRefusal.NoMemory result (weights_of_text count input.now) }
+    ensures size { IfOk result (λ weights. length weights ≡ count) }
 {
     let value = value_of(alloc, input)?.ok_or(WeightsRefusal::NotJson)?;
     weights(alloc, count, &value)

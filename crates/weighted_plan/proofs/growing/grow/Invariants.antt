@@ -6,7 +6,7 @@ use Rattle.weighted_plan.proofs.growing.grow.Given as goal
 
 abbrev pub invariant-loop-free : goal.invariant-loop-free
 invariant-loop-free l = record {
-  tree : StandsOn (count_of l.m) (distance l.m) (λ i. get_or l.initial.tree.room.items i 0) l.turn l.u l.v l.flow l.demand l.tree;
+  tree : StandsOn (count_of l.m) (distance l.m) (λ i. get_or l.fn.tree.room.items i 0) l.turn l.u l.v l.flow l.demand l.tree;
   late : 2 ≤ l.turn;
 }
 
