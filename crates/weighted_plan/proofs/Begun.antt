@@ -1,5 +1,5 @@
 -- The state before anything flows.
-use Rattle.std.proofs.Common.{◌≡◌, inl, inr, ℕ, ◌+◌, ◌*◌, ◌<◌, ◌≤◌, List, length, get_or, replicate, refl, sym, ◌∙◌, ap, arith}
+use Rattle.std.proofs.Common.{◌≡◌, inl, inr, ℕ, ◌+◌, ◌*◌, ◌<◌, ◌≤◌, List, length, get_or, replicate, refl, sym, ◌∙◌, ap, subst, arith}
 use Rattle.std.specs.Prelude.{sum}
 use Rattle.std.proofs.lemmas.Bool.{cases_lt}
 use Rattle.std.proofs.lemmas.List.{length-replicate, get_or-replicate, get_or_past}
@@ -74,6 +74,14 @@ module _ (n : ℕ) (d : ℕ → ℕ → ℕ) (w u v flow : List ℕ) (short : (i
       even = refl;
     };
   }
+
+-- the same of lists that are those
+pub first_state : (n count : ℕ) (d : ℕ → ℕ → ℕ) (w u v flow supply demand : List ℕ) → ((i j : ℕ) → d i j ≤ longest_trip) → length w ≡ n → count ≡ n → u ≡ replicate count longest_trip → v ≡ replicate count 0 → flow ≡ replicate (count * count) 0 → supply ≡ w → demand ≡ w → IsTransport n d w u v flow supply demand
+first_state n count d w u v flow supply demand short sized is rows columns cells supply_is demand_is =
+    let P : List ℕ → Type 0 = λ x. IsTransport n d w u v flow x demand in
+    let Q : List ℕ → Type 0 = λ x. IsTransport n d w u v flow w x in
+    subst P (sym supply_is) (subst Q (sym demand_is) (first_transport n d w u v flow short sized
+    (rows ∙ ap (λ k. replicate k longest_trip) is) (columns ∙ ap (λ k. replicate k 0) is) (cells ∙ ap (λ k. replicate (k * k) 0) is)))
 
 -- what a column takes and has still to take is at most the greatest weight
 pub light_columns : (n : ℕ) (w flow supply demand : List ℕ) → length w ≡ n → AreWeights w → IsFlowing n w flow supply demand → (j : ℕ) → j < n → column_sum n flow j + get_or demand j 0 ≤ greatest_weight
