@@ -1,12 +1,12 @@
 -- A flow bounds from below the weighted sum of all latencies that reach the round trips.
-use Rattle.std.proofs.Common.{◌≡◌, ◌≢◌, inl, inr, ℕ, ◌+◌, ◌*◌, ◌<◌, ◌≤◌, List, length, get_or, refl, sym, ◌∙◌, ap, arith}
+use Rattle.std.proofs.Common.{◌≡◌, ◌≢◌, inl, inr, ℕ, ◌+◌, ◌*◌, ◌<◌, ◌≤◌, List, get_or, sym, ◌∙◌, ap, arith}
 use Rattle.std.proofs.lemmas.Bool.{cases_eq}
 use Rattle.std.proofs.Math.Nat.{add-mul, mul_comm, mul_assoc, mul-zero, zero-mul, mul-le-mul_right}
 use Rattle.helios_model.specs.Grid.{at}
 use Rattle.helios_model.specs.Pairings.{sum_below}
-use Rattle.helios_model.specs.Plans.{PlanData, IsAccepted, count_of, rtt}
-use Rattle.weighted_plan.specs.Flows.{column_sum, flow_value, row_sum, FlowsShowOptimal, IsBalanced, IsFlowCertificate}
-use Rattle.weighted_plan.specs.Weighted.{weighted_sum, IsWeightedOptimal}
+use Rattle.helios_model.specs.Plans.{count_of, rtt}
+use Rattle.weighted_plan.specs.Flows.{flow_value, FlowsShowOptimal, IsBalanced}
+use Rattle.weighted_plan.specs.Weighted.{weighted_sum}
 use Rattle.weighted_plan.proofs.Additions.{same_sum, sum_bounded, scaled_sum, exchanged_sums}
 
 module _ (n : ℕ) (weights flow : List ℕ) (balanced : (i : ℕ) → i < n → IsBalanced n weights flow i) where

@@ -1,10 +1,10 @@
 -- Units are handed on, from row to row.
-use Rattle.std.proofs.Common.{◌≡◌, ◌⊎◌, inl, inr, ℕ, ◌+◌, ◌-◌, ◌*◌, ◌<◌, ◌≤◌, List, length, get_or, refl, sym, ◌∙◌, ap, subst, arith}
+use Rattle.std.proofs.Common.{◌≡◌, ◌⊎◌, inl, inr, ℕ, ◌+◌, ◌-◌, ◌*◌, ◌<◌, ◌≤◌, List, length, get_or, sym, ◌∙◌, ap, subst, arith}
 use Rattle.std.proofs.lemmas.Bool.{cases_eq}
 use Rattle.helios_model.specs.Grid.{at, put}
 use Rattle.weighted_plan.specs.Flows.{column_sum, row_sum}
 use Rattle.weighted_plan.specs.Growing.{HaveRoom, IsShape}
-use Rattle.weighted_plan.specs.Handing.{FlowsAlong, IsArc, IsHanded, IsHanding, IsMore}
+use Rattle.weighted_plan.specs.Handing.{FlowsAlong, IsArc, IsHanded, IsHanding}
 use Rattle.weighted_plan.specs.Weighted.{greatest_weight}
 use Rattle.weighted_plan.proofs.Puts.{at_column_bounded, put_column, put_elsewhere, put_here, put_long, put_other_column, put_other_row, put_row}
 
@@ -203,8 +203,9 @@ module _ (n : ℕ) (order turns near via room flow after : List ℕ) (end amount
   given_along i j i_in j_in sends = elim (cases_eq i next) [
     | inl same_row ↦ elim (cases_eq j way) [
       | inl same_column ↦ inr (
-          same_row ∙ ap (λ c. get_or near c 0) (sym same_column),
-          inl (let is : get_or turns j 0 ≡ get_or turns (get_or via row 0) 0 = ap (λ c. get_or turns c 0) same_column in omega (arith, way_joined, deep)))
+        same_row ∙ ap (λ c. get_or near c 0) (sym same_column),
+        inl (let is : get_or turns j 0 ≡ get_or turns (get_or via row 0) 0 = ap (λ c. get_or turns c 0) same_column in omega (arith, way_joined, deep)),
+      )
       | inr other ↦ taken_along i j i_in j_in (let is : at n given i j ≡ at n taken i j = given_elsewhere i j j_in (λ r c. other c) in omega arith)
     ]
     | inr other ↦ taken_along i j i_in j_in (let is : at n given i j ≡ at n taken i j = given_elsewhere i j j_in (λ r c. other r) in omega arith)

@@ -1,11 +1,11 @@
 -- A column joins the tree, and the rows that send to it.
-use Rattle.std.proofs.Common.{◌≡◌, ◌⊎◌, inl, inr, ℕ, ◌+◌, ◌*◌, ◌<◌, ◌≤◌, cond, List, ◌++◌, length, get_or, set, take, refl, sym, ◌∙◌, ap, subst, arith, get_or-set_same, get_or-set_other, length-set}
+use Rattle.std.proofs.Common.{◌≡◌, ◌⊎◌, inl, inr, ℕ, ◌+◌, ◌<◌, ◌≤◌, cond, List, ◌++◌, length, get_or, set, take, refl, sym, ◌∙◌, ap, subst, arith, get_or-set_same, get_or-set_other, length-set}
 use Rattle.std.specs.Prelude.{nat_eq}
 use Rattle.std.proofs.lemmas.Bool.{cases_lt, cases_eq, eq-eqb, ne_eqb}
 use Rattle.std.proofs.lemmas.List.{take-append-le, take_all}
 use Rattle.std.proofs.lemmas.List.Sums.{sum_by-set}
 use Rattle.helios_model.specs.Grid.{at}
-use Rattle.weighted_plan.specs.Growing.{columns_left, HaveRoom, IsCloser, IsExtended, IsGrowing, IsJoined, IsShape, IsTree}
+use Rattle.weighted_plan.specs.Growing.{columns_left, IsCloser, IsExtended, IsGrowing, IsJoined, IsTree}
 use Rattle.weighted_plan.specs.Transport.{IsTight}
 
 -- one column less is left

@@ -1,11 +1,10 @@
 -- What is said of a plan, weights and a flow is said by one verdict alone.
-use Rattle.std.proofs.Common.{◌≡◌, inl, inr, ℕ, ◌<◌, Bool, true, false, ◌||◌, cond, List, Some, None, length, refl, sym, ◌∙◌, ap, arith}
+use Rattle.std.proofs.Common.{◌≡◌, inl, inr, ℕ, Bool, true, false, ◌||◌, cond, List, refl, sym, ◌∙◌, ap}
 use Rattle.std.specs.Prelude.{◌==◌, not, slice_index}
 use Rattle.std.proofs.lemmas.Bool.{cases_eq, eq-eqb, ne_eqb}
 use Rattle.helios_model.specs.Passing.{EachSearchFindsFirst}
 use Rattle.helios_model.specs.Plans.{PlanData, count_of}
 use Rattle.helios_model.specs.Short.{EachShortPairIsFound}
-use Rattle.helios_model.specs.Squares.{first_below}
 use Rattle.weighted_plan.specs.Flows.{column_sum, flow_value, row_sum, IsBalanced}
 use Rattle.weighted_plan.specs.Says.{Says}
 use Rattle.weighted_plan.specs.Verdict.{is_unbalanced, flowing, judged, verdict_of, weighed}

@@ -1,23 +1,22 @@
 -- Latencies that are the sums of potentials make an accepted plan, and the flow is its certificate.
 use Rattle.std.proofs.Common.{◌≡◌, inl, inr, ℕ, ◌+◌, ◌*◌, ◌<◌, ◌≤◌, ◌/◌, ◌%◌, List, length, get_or, refl, sym, ◌∙◌, ap, subst, arith}
-use Rattle.std.specs.Prelude.{All}
 use Rattle.std.proofs.lemmas.Bool.{cases_lt}
 use Rattle.std.proofs.lemmas.List.Elements.{All-from_get_or}
 use Rattle.std.proofs.lemmas.Nat.{div_below, div-add-mod'}
-use Rattle.std.proofs.Math.Nat.{add-mul, mul-add, mul-zero, mul_comm}
+use Rattle.std.proofs.Math.Nat.{add-mul, mul-add, mul-zero}
 use Rattle.helios_model.specs.Grid.{at}
 use Rattle.helios_model.specs.Limits.{greatest_latency, longest_trip}
 use Rattle.helios_model.specs.Pairings.{sum_below}
 use Rattle.helios_model.specs.Passing.{EachSearchFindsFirst}
 use Rattle.helios_model.specs.Plans.{MatrixData, PlanData, IsAccepted, IsMatrix, IsPlan}
 use Rattle.helios_model.specs.Short.{EachShortPairIsFound}
-use Rattle.weighted_plan.specs.Flows.{column_sum, flow_value, row_sum, AreUnits, FlowsShowOptimal, IsBalanced, IsFlowCertificate}
-use Rattle.weighted_plan.specs.Transport.{IsTight, IsTransported}
+use Rattle.weighted_plan.specs.Flows.{flow_value, row_sum, AreUnits, FlowsShowOptimal, IsBalanced, IsFlowCertificate}
+use Rattle.weighted_plan.specs.Transport.{IsTransported}
 use Rattle.weighted_plan.specs.Trips.{count_of, distance}
 use Rattle.weighted_plan.specs.Verdict.{verdict_of}
 use Rattle.weighted_plan.specs.Weighted.{greatest_weight, weighted_sum, AreWeights, IsWeight, IsWeightedOptimal}
 use Rattle.weighted_plan.specs.declared.verdict.WeightedVerdict.TheVariants as verdicts
-use Rattle.weighted_plan.proofs.Additions.{same_sum, split_sum}
+use Rattle.weighted_plan.proofs.Additions.{split_sum}
 use Rattle.weighted_plan.proofs.Duality.{by_columns, by_rows}
 use Rattle.weighted_plan.proofs.Judgements.{verdict_is}
 use Rattle.weighted_plan.proofs.Puts.{at_row_bounded}

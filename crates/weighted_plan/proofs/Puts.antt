@@ -1,9 +1,7 @@
 -- A square of which one number changes.
-use Rattle.std.proofs.Common.{◌≡◌, inl, inr, ℕ, ◌+◌, ◌*◌, ◌<◌, ◌≤◌, ◌%◌, ◌/◌, List, length, get_or, set, sym, ◌∙◌, ap, arith, get_or-set_same, get_or-set_other, length-set}
-use Rattle.std.proofs.lemmas.Bool.{cases_eq}
+use Rattle.std.proofs.Common.{◌≡◌, ℕ, ◌+◌, ◌*◌, ◌<◌, ◌≤◌, ◌%◌, ◌/◌, List, length, sym, ◌∙◌, ap, arith, get_or-set_same, get_or-set_other, length-set}
 use Rattle.std.proofs.lemmas.Nat.{div-mul-add, mod-mul-add}
 use Rattle.helios_model.specs.Grid.{at, put}
-use Rattle.helios_model.specs.Pairings.{sum_below}
 use Rattle.weighted_plan.specs.Flows.{column_sum, row_sum}
 use Rattle.weighted_plan.proofs.Additions.{changed_sum, same_sum, term_bounded}
 use Rattle.weighted_plan.proofs.Places.{cell_within}

@@ -5,12 +5,7 @@ use crate::tree::Tree;
 use std::alloc::{AllocError, Global};
 
 /// A tree of one row, which has so many units to send.
-pub(crate) fn plant(
-    alloc: Global,
-    count: usize,
-    row: usize,
-    most: u64,
-) -> Result<Tree, AllocError>
+pub(crate) fn plant(alloc: Global, count: usize, row: usize, most: u64) -> Result<Tree, AllocError>
     requires { row < count }
     ensures { IfOk result (IsPlanted count row most) }
 {

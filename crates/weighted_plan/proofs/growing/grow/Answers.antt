@@ -1,5 +1,5 @@
-use Rattle.std.proofs.Common.{◌≡◌, ◌+◌, ◌<◌, ◌≤◌, ℕ, length, get_or, set, arith}
-use Rattle.weighted_plan.specs.Growing.{IsGrowing, IsJoined, IsLowered, IsNearest, IsRaised, IsTree}
+use Rattle.std.proofs.Common.{◌≡◌, ◌≤◌, length, get_or, arith}
+use Rattle.weighted_plan.specs.Growing.{IsLowered, IsNearest, IsRaised}
 use Rattle.weighted_plan.specs.Trips.{count_of, distance}
 use Rattle.weighted_plan.proofs.Joining.{column_joined, joined_tree}
 use Rattle.weighted_plan.proofs.Shifted.{enough, grown, limited, nearest_tight, shifted_tree}

@@ -1,4 +1,4 @@
-use Rattle.std.proofs.Common.{◌≡◌, ◌<◌, ◌≤◌, List, ◌++◌, length, get_or, drop, take, ap, arith}
+use Rattle.std.proofs.Common.{◌≡◌, ◌<◌, ◌≤◌, ◌++◌, length, get_or, drop, take, arith}
 use Rattle.std.specs.Prelude.{min}
 use Rattle.helios_model.specs.Grid.{at}
 use Rattle.weighted_plan.specs.Growing.{IsExtended}
@@ -20,8 +20,8 @@ returns-clause-grows c =
     let near_is : c.index-2.result.now ≡ get_or t.near.items c.args.column 0 = read_in n t.near.items c.args.column c.index-2.result.now shape.nears c.requires.column c.index-2.ensures in
     let near_row : get_or t.near.items c.args.column 0 < n = shape.near_row c.args.column c.requires.column in
     let room_is : c.index-3.result.now ≡ get_or t.room.items (get_or t.near.items c.args.column 0) 0 = (
-        let is : c.index-3.result.now ≡ get_or t.room.items c.index-2.result.now 0 = read_in n t.room.items c.index-2.result.now c.index-3.result.now shape.rooms (omega (arith, near_is, near_row)) c.index-3.ensures in
-        rw near_is at is) in
+    let is : c.index-3.result.now ≡ get_or t.room.items c.index-2.result.now 0 = read_in n t.room.items c.index-2.result.now c.index-3.result.now shape.rooms (omega (arith, near_is, near_row)) c.index-3.ensures in
+    rw near_is at is) in
     let some_room : 1 ≤ get_or t.room.items (get_or t.near.items c.args.column 0) 0 = shape.some_room (get_or t.near.items c.args.column 0) near_row (shape.near_joined c.args.column c.requires.column) in
     let least : c.min.result ≡ min c.index-3.result.now c.number-units.result = c.min.ensures in
     rw back (joined_row n (distance c.args.m.now) c.args.turn c.args.u.now c.args.flow.now t.order.items t.turns.items t.near.items t.via.items t.room.items c.extend.new.near c.args.column c.args.row c.min.result c.requires.late c.requires.row c.requires.column c.requires.turn
@@ -40,8 +40,8 @@ returns-clause-joined c =
     let near_is : c.index-2.result.now ≡ get_or t.near.items c.args.column 0 = read_in n t.near.items c.args.column c.index-2.result.now shape.nears c.requires.column c.index-2.ensures in
     let near_row : get_or t.near.items c.args.column 0 < n = shape.near_row c.args.column c.requires.column in
     let room_is : c.index-3.result.now ≡ get_or t.room.items (get_or t.near.items c.args.column 0) 0 = (
-        let is : c.index-3.result.now ≡ get_or t.room.items c.index-2.result.now 0 = read_in n t.room.items c.index-2.result.now c.index-3.result.now shape.rooms (omega (arith, near_is, near_row)) c.index-3.ensures in
-        rw near_is at is) in
+    let is : c.index-3.result.now ≡ get_or t.room.items c.index-2.result.now 0 = read_in n t.room.items c.index-2.result.now c.index-3.result.now shape.rooms (omega (arith, near_is, near_row)) c.index-3.ensures in
+    rw near_is at is) in
     let some_room : 1 ≤ get_or t.room.items (get_or t.near.items c.args.column 0) 0 = shape.some_room (get_or t.near.items c.args.column 0) near_row (shape.near_joined c.args.column c.requires.column) in
     let least : c.min.result ≡ min c.index-3.result.now c.number-units.result = c.min.ensures in
     rw back (row_joined n (distance c.args.m.now) c.args.turn c.args.u.now c.args.flow.now t.order.items t.turns.items t.near.items t.via.items t.room.items c.extend.new.near c.args.column c.args.row c.min.result c.requires.late c.requires.row c.requires.column c.requires.turn

@@ -1,4 +1,4 @@
-use Rattle.std.proofs.Common.{◌≡◌, ℕ, ◌+◌, ◌<◌, ◌≤◌, get_or}
+use Rattle.std.proofs.Common.{ℕ, ◌+◌, ◌<◌, ◌≤◌, get_or}
 use Rattle.helios_model.specs.Grid.{at}
 use Rattle.weighted_plan.specs.Trees.{GrowsOn, HasJoined}
 use Rattle.weighted_plan.specs.Trips.{count_of, distance}

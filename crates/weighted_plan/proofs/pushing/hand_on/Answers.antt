@@ -1,4 +1,4 @@
-use Rattle.std.proofs.Common.{◌≡◌, ◌+◌, ◌*◌, ◌<◌, ◌≤◌, length, get_or, refl, ap, arith}
+use Rattle.std.proofs.Common.{◌≡◌, ◌+◌, ◌*◌, ◌<◌, ◌≤◌, get_or, refl, arith}
 use Rattle.helios_model.specs.Grid.{at}
 use Rattle.weighted_plan.specs.Weighted.{greatest_weight}
 use Rattle.weighted_plan.proofs.Handed.{begun_as, column_in, earlier_as, enough_as, first_fits_as, handed_on_as, next_bounded_as, next_row_in}

@@ -1,11 +1,8 @@
-use Rattle.std.proofs.Common.{◌≡◌, ◌+◌, ◌*◌, ◌<◌, ◌≤◌, ◌++◌, ℕ, List, length, get_or, set, replicate, drop, take, rules, arith}
-use Rattle.helios_model.specs.Grid.{at}
+use Rattle.std.proofs.Common.{◌≡◌, ◌*◌, ◌<◌, ◌≤◌, ◌++◌, length, get_or, set, replicate, drop, take, rules, arith}
 use Rattle.helios_model.specs.Limits.{longest_trip}
-use Rattle.weighted_plan.specs.Flows.{column_sum}
 use Rattle.weighted_plan.specs.Growing.{IsGrown}
 use Rattle.weighted_plan.specs.Handing.{IsSent}
 use Rattle.weighted_plan.specs.Trips.{count_of, distance}
-use Rattle.weighted_plan.specs.Weighted.{greatest_weight}
 use Rattle.weighted_plan.proofs.Begun.{distance_bounded, first_state, light_columns}
 use Rattle.weighted_plan.proofs.Joining.{written_back}
 use Rattle.weighted_plan.proofs.Places.{read_in}
