@@ -3,10 +3,10 @@ use Rattle.std.proofs.Common.{◌≡◌, inl, inr, ℕ, Bool, true, false, ◌||
 use Rattle.std.specs.Prelude.{◌==◌, not, slice_index}
 use Rattle.std.proofs.lemmas.Bool.{cases_eq, eq-eqb, ne_eqb}
 use Rattle.helios_model.specs.Passing.{EachSearchFindsFirst}
-use Rattle.helios_model.specs.Plans.{PlanData, count_of}
-use Rattle.helios_model.specs.Short.{EachShortPairIsFound}
+use Rattle.helios_model.specs.Plans.{PlanData, IsAccepted, count_of}
+use Rattle.helios_model.specs.Short.{EachShortPairIsFound, IsFirstShort}
 use Rattle.weighted_plan.specs.Flows.{column_sum, flow_value, row_sum, IsBalanced}
-use Rattle.weighted_plan.specs.Says.{Says}
+use Rattle.weighted_plan.specs.Says.{IsFirstUnbalanced, Says}
 use Rattle.weighted_plan.specs.Verdict.{is_unbalanced, flowing, judged, verdict_of, weighed}
 use Rattle.weighted_plan.specs.Weighted.{weighted_sum}
 use Rattle.weighted_plan.specs.declared.verdict.WeightedVerdict.{WeightedVerdict}
@@ -57,3 +57,9 @@ verdict_is finds shorts plan weights flow (verdicts.Optimal total) says = sym (
     ∙ ap (λ b. cond b (verdicts.Optimal (weighted_sum weights plan.latencies)) (verdicts.ValueDiffers (weighted_sum weights plan.latencies) (flow_value plan flow)))
     (eq-eqb (weighted_sum weights plan.latencies) (flow_value plan flow) says.1.value)
     ∙ ap verdicts.Optimal (sym says.2))
+
+pub short_is : EachSearchFindsFirst → EachShortPairIsFound → (plan : PlanData) (weights flow : List ℕ) (i j : ℕ) → IsFirstShort plan i j → verdicts.Short i j ≡ verdict_of plan weights flow
+short_is finds shorts plan weights flow i j short = verdict_is finds shorts plan weights flow (verdicts.Short i j) short
+
+pub unbalanced_is : EachSearchFindsFirst → EachShortPairIsFound → (plan : PlanData) (weights flow : List ℕ) (i : ℕ) → IsAccepted plan → IsFirstUnbalanced (count_of plan) weights flow i → verdicts.BadFlow i ≡ verdict_of plan weights flow
+unbalanced_is finds shorts plan weights flow i accepted unbalanced = verdict_is finds shorts plan weights flow (verdicts.BadFlow i) (accepted, unbalanced)

@@ -29,10 +29,14 @@ members_data flow latency names rtt total weights =
     object (member (codes "flow") flow (member (codes "latency") latency (member (codes "names") names
     (member (codes "rtt") rtt (member (codes "total") total (member (codes "weights") weights no_members))))))
 
-abbrev pub weighted_data : PlanData → List ℕ → List ℕ → Data
-weighted_data plan weights flow =
+abbrev pub weighted_data_with : PlanData → List ℕ → List ℕ → ℕ → Data
+weighted_data_with plan weights flow total =
     members_data (square_data (count_of plan) flow) (array_data whole plan.latencies) (array_data string plan.names)
-    (square_data (count_of plan) plan.trips) (whole (weighted_sum weights plan.latencies)) (array_data whole weights)
+    (square_data (count_of plan) plan.trips) (whole total) (array_data whole weights)
+
+-- the total is the weighted sum of the latencies
+abbrev pub weighted_data : PlanData → List ℕ → List ℕ → Data
+weighted_data plan weights flow = weighted_data_with plan weights flow (weighted_sum weights plan.latencies)
 
 -- the text without blanks, and a line feed
 abbrev pub weighted_text : PlanData → List ℕ → List ℕ → List ℕ

@@ -60,25 +60,8 @@ fn compare(plan: &Plan, weights: &[u64], flow: &[u64]) -> WeightedVerdict
     }
 }
 
-fn judge(plan: &Plan, weights: &[u64], flow: &[u64]) -> WeightedVerdict
-    requires sites { length weights.now ≡ count_of plan.now }
-    requires weights { AreWeights weights.now }
-    requires cells { length flow.now ≡ count_of plan.now * count_of plan.now }
-    requires units { AreUnits flow.now }
-    ensures says { Says plan.now weights.now flow.now result }
-    ensures optimal { (total : ℕ) → result ≡ WeightedVerdict.Optimal total → IsWeightedOptimal plan.now weights.now }
-{
-    if let Some((i, j)) = first_short(plan) {
-        return WeightedVerdict::Short(i, j);
-    }
-    if let Some(site) = first_unbalanced(plan.count(), weights, flow) {
-        return WeightedVerdict::BadFlow(u64::from(site));
-    }
-    compare(plan, weights, flow)
-}
-
 /// The verdict on a plan with as many weights and a flow between its sites. It takes no memory.
-#[tactic(auto, using(crate::proofs::Judgements::verdict_is))]
+#[tactic(auto, using(crate::proofs::Judgements::verdict_is, crate::proofs::Judgements::short_is, crate::proofs::Judgements::unbalanced_is))]
 pub fn check_weighted(plan: &Plan, weights: &Weights, flow: &Flow) -> WeightedVerdict
     requires weights { length weights.now ≡ count_of plan.now }
     requires cells { length flow.now ≡ count_of plan.now * count_of plan.now }
@@ -88,5 +71,12 @@ pub fn check_weighted(plan: &Plan, weights: &Weights, flow: &Flow) -> WeightedVe
 {
     each_search_finds_first();
     each_short_pair_is_found();
-    judge(plan, weights.items(), flow.items())
+    let (weights, flow) = (weights.items(), flow.items());
+    if let Some((i, j)) = first_short(plan) {
+        return WeightedVerdict::Short(i, j);
+    }
+    if let Some(site) = first_unbalanced(plan.count(), weights, flow) {
+        return WeightedVerdict::BadFlow(u64::from(site));
+    }
+    compare(plan, weights, flow)
 }

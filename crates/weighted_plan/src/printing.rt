@@ -2,7 +2,7 @@ ghost use Rattle.std.specs.Prelude.{◌≡◌, ◌*◌, IfOk, Some, length};
 ghost use Rattle.helios_model.specs.Plans.{count_of};
 ghost use Rattle.json_text.specs.Text.{json_of};
 ghost use Rattle.serde_json.specs.View.{view};
-ghost use Rattle.weighted_plan.specs.Printing.{members_data, weighted_data, weighted_text, whole};
+ghost use Rattle.weighted_plan.specs.Printing.{members_data, weighted_data, weighted_data_with, weighted_text, whole};
 
 use crate::sums::weighted_sum;
 use crate::values::{names, numbers, square};
@@ -39,17 +39,16 @@ fn weighted_value(
     plan: &Plan,
     weights: &Weights,
     flow: &Flow,
+    total: u64,
 ) -> Result<Value, AllocError>
-    requires weights { length weights.now ≡ count_of plan.now }
-    requires cells { length flow.now ≡ count_of plan.now * count_of plan.now }
-    ensures { IfOk result (λ v. view v ≡ weighted_data plan.now weights.now flow.now) }
+    requires { length flow.now ≡ count_of plan.now * count_of plan.now }
+    ensures { IfOk result (λ v. view v ≡ weighted_data_with plan.now weights.now flow.now total) }
 {
     let count = plan.count();
     let cells = square(alloc, count, flow.items())?;
     let latency = numbers(alloc, plan.latencies().items())?;
     let names = names(alloc, plan.names().items())?;
     let rtt = square(alloc, count, plan.trips().items())?;
-    let total = weighted_sum(plan, weights.items());
     let weights = numbers(alloc, weights.items())?;
     members(alloc, cells, latency, names, rtt, total, weights)
 }
@@ -68,6 +67,7 @@ pub fn print_weighted(
     ensures text { IfOk result (λ text. text ≡ weighted_text plan.now weights.now flow.now) }
     ensures reads_back { IfOk result (λ text. json_of text ≡ Some (weighted_data plan.now weights.now flow.now)) }
 {
-    let value = weighted_value(alloc, plan, weights, flow)?;
+    let total = weighted_sum(plan, weights.items());
+    let value = weighted_value(alloc, plan, weights, flow, total)?;
     line_of(alloc, &value)
 }

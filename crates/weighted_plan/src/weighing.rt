@@ -94,9 +94,9 @@ fn plan_with(names: &Names, trips: &Times, latencies: Times) -> Result<Plan, All
     Ok(Plan::new(names.copy()?, trips.copy()?, latencies))
 }
 
-/// The plan of a matrix with the least weighted sum of latencies, and the flow that shows it. Only want of memory is an error.
+// The plan of the potentials, and the flow that is tight with them.
 #[tactic(auto, using(crate::proofs::Outcomes::is_plan, crate::proofs::Outcomes::is_accepted, crate::proofs::Outcomes::is_certified, crate::proofs::Outcomes::is_optimal, crate::proofs::Outcomes::is_judged, crate::proofs::Outcomes::are_units))]
-pub fn weigh(alloc: Global, m: &Matrix, w: &Weights) -> Result<(Plan, Flow), AllocError>
+fn weighed(alloc: Global, m: &Matrix, w: &Weights) -> Result<(Plan, Flow), AllocError>
     requires { length w.now ≡ count_of m.now }
     ensures names { IfOk result (λ made. made.0.names ≡ m.now.names) }
     ensures trips { IfOk result (λ made. made.0.trips ≡ m.now.trips) }
@@ -113,4 +113,17 @@ pub fn weigh(alloc: Global, m: &Matrix, w: &Weights) -> Result<(Plan, Flow), All
     let latencies = latencies(alloc, &u, &v)?;
     let plan = plan_with(names, m.trips(), latencies)?;
     Ok((plan, Flow::of(flow)))
+}
+
+/// The plan of a matrix with the least weighted sum of latencies, and the flow that shows it. Only want of memory is an error.
+pub fn weigh(alloc: Global, m: &Matrix, w: &Weights) -> Result<(Plan, Flow), AllocError>
+    requires { length w.now ≡ count_of m.now }
+    ensures names { IfOk result (λ made. made.0.names ≡ m.now.names) }
+    ensures trips { IfOk result (λ made. made.0.trips ≡ m.now.trips) }
+    ensures accepted { IfOk result (λ made. IsAccepted made.0) }
+    ensures certified { IfOk result (λ made. IsFlowCertificate made.0 w.now made.1) }
+    ensures judged { IfOk result (λ made. verdict_of made.0 w.now made.1 ≡ WeightedVerdict.Optimal (weighted_sum w.now made.0.latencies)) }
+    ensures optimal { IfOk result (λ made. IsWeightedOptimal made.0 w.now) }
+{
+    weighed(alloc, m, w)
 }

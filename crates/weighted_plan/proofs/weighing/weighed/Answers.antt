@@ -2,7 +2,7 @@ use Rattle.std.proofs.Common.{◌≡◌, ◌+◌, ◌<◌, ℕ, length, get_or}
 use Rattle.weighted_plan.specs.Transport.{IsTransported}
 use Rattle.weighted_plan.specs.Trips.{count_of, distance}
 use Rattle.weighted_plan.proofs.Outcomes.{are_units, is_certified, is_judged, is_optimal, planned}
-use Rattle.weighted_plan.proofs.weighing.weigh.Goals as goal
+use Rattle.weighted_plan.proofs.weighing.weighed.Goals as goal
 
 pub of-requires : goal.of-requires
 of-requires c =
