@@ -6,7 +6,7 @@ use rtt_matrix::read_matrix;
 use std::alloc::{AllocError, Global};
 use std::test::Fail;
 use weighted_plan::{
-    Weights, WeightedVerdict, check_weighted, print_weighted, read_weights, weigh,
+    WeightedVerdict, Weights, check_weighted, print_weighted, read_weights, weigh,
 };
 
 // What a text says as a matrix with weights.
@@ -71,7 +71,11 @@ fn verdicts_on_weighted_plans_give_the_least_sum(rt: HostRuntime) -> Result<(), 
         ),
     ];
     for (text, total) in cases {
-        assert_eq!(rt; verdict(rt.alloc(), text)?, WeightedVerdict::Optimal(total), "at {text}");
+        assert_eq!(rt;
+            verdict(rt.alloc(), text)?,
+            WeightedVerdict::Optimal(total),
+            "at {text}"
+        );
     }
     Ok(())
 }
@@ -94,7 +98,11 @@ fn load(i: u64) -> u64 {
     if i == 31 {
         return 1000;
     }
-    i.wrapping_mul(i).wrapping_mul(331).wrapping_add(i.wrapping_mul(7)) % 1000 + 1
+    i.wrapping_mul(i)
+        .wrapping_mul(331)
+        .wrapping_add(i.wrapping_mul(7))
+        % 1000
+        + 1
 }
 
 fn row(alloc: Global, i: u64) -> Result<String, AllocError> {

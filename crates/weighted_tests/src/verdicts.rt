@@ -34,7 +34,12 @@ fn verdict(
 fn a_plan_with_weights_and_a_flow_is_judged(rt: HostRuntime) -> Result<(), Fail> {
     let cases = [
         (UNEVEN, [3, 1], [2, 1, 1, 0], WeightedVerdict::Optimal(200)),
-        (UNEVEN, [1, 3], [0, 1, 1, 2], WeightedVerdict::ValueDiffers(600, 200)),
+        (
+            UNEVEN,
+            [1, 3],
+            [0, 1, 1, 2],
+            WeightedVerdict::ValueDiffers(600, 200),
+        ),
         (UNEVEN, [3, 1], [2, 1, 1, 1], WeightedVerdict::BadFlow(1)),
         (UNEVEN, [3, 1], [3, 1, 1, 0], WeightedVerdict::BadFlow(0)),
         (UNEVEN, [3, 1], [2, 1, 0, 1], WeightedVerdict::BadFlow(0)),

@@ -4,7 +4,11 @@ use weighted_plan::{Flow, Weights, read_weights};
 #[test]
 fn texts_are_read_or_refused(rt: HostRuntime) -> Result<(), Fail> {
     let cases = [
-        (r#"{"weights":[1,1000],"names":["A"],"rtt":7}"#, 2, "weights"),
+        (
+            r#"{"weights":[1,1000],"names":["A"],"rtt":7}"#,
+            2,
+            "weights",
+        ),
         (r#"{"weights":[1]}"#, 1, "weights"),
         (
             r#"{"weights":[1,2,3,4,5,6,7,8,9,10,11,12,13,14,15,16,17,18,19,20,21,22,23,24,25,26,27,28,29,30,31,32]}"#,
