@@ -1,5 +1,5 @@
 //! The fields of records, taken from an input one after another.
-ghost use Rattle.std.specs.Prelude.{◌≡◌, ◌≤◌, ◌-◌, length};
+ghost use Rattle.std.specs.Prelude.{◌≡◌, ◌≢◌, ◌≤◌, ◌-◌, Err, length};
 
 use crate::faults::DecodeFault;
 use crate::given::is_given;
@@ -73,7 +73,8 @@ impl<'a> Decoder<'a> {
     /// One byte, from the least to the most.
     #[tactic(auto, unfolding(crate::specs::Fields::byte_at))]
     pub(crate) fn byte(&mut self, least: u8, most: u8) -> Result<u8, DecodeFault>
-        ensures { Takes result (byte_at (is_within least most) self.old.whole self.old.rest.now) self.old self.new }
+        ensures takes { Takes result (byte_at (is_within least most) self.old.whole self.old.rest.now) self.old self.new }
+        ensures no_memory_taken { result ≢ Err DecodeFault.NoMemory }
     {
         let at = self.place();
         match self.rest {
@@ -92,7 +93,8 @@ impl<'a> Decoder<'a> {
     #[tactic(auto, unfolding(crate::specs::Fields::byte_at))]
     pub(crate) fn site(&mut self, count: u8) -> Result<SiteId, DecodeFault>
         requires { count ≤ most_sites }
-        ensures { Takes result (byte_at (λ b. nat_lt b count) self.old.whole self.old.rest.now) self.old self.new }
+        ensures takes { Takes result (byte_at (λ b. nat_lt b count) self.old.whole self.old.rest.now) self.old self.new }
+        ensures no_memory_taken { result ≢ Err DecodeFault.NoMemory }
     {
         let at = self.place();
         match self.rest {
@@ -146,7 +148,8 @@ impl<'a> Decoder<'a> {
     /// So many bytes as they are.
     #[tactic(auto, unfolding(crate::specs::Fields::text_at))]
     pub(crate) fn text(&mut self, length: usize) -> Result<&'a [u8], DecodeFault>
-        ensures { TakesAs (λ t. t.now) result (text_at (λ text. true) length self.old.whole self.old.rest.now) self.old self.new }
+        ensures takes { TakesAs (λ t. t.now) result (text_at (λ text. true) length self.old.whole self.old.rest.now) self.old self.new }
+        ensures no_memory_taken { result ≢ Err DecodeFault.NoMemory }
     {
         if self.rest.len() < length {
             return Err(DecodeFault::Cut);

@@ -7,6 +7,7 @@ ghost use Rattle.log_records.specs.Keys.{key_bytes, value_bytes};
 ghost use Rattle.log_records.specs.Items.{read_bytes, reads_bytes, write_bytes, writes_bytes};
 ghost use Rattle.log_records.specs.Records.{prepare_bytes, record_bytes};
 
+use crate::lengths::record_length;
 use helios_model::{Bytes, Key, Prepare, ReadItem, Record, Time, TxnId, Val, Version, WriteItem};
 use std::alloc::{AllocError, Global};
 
@@ -124,7 +125,7 @@ pub(crate) fn put_record(out: &mut Vec<u8>, r: &Record) -> Result<(), AllocError
 pub fn encode_record(alloc: Global, r: &Record) -> Result<Bytes, AllocError>
     ensures { IfOk result (λ bytes. bytes ≡ record_bytes r.now) }
 {
-    let mut out = Vec::new(alloc);
+    let mut out = Vec::with_capacity(alloc, record_length(r))?;
     put_record(&mut out, r)?;
     Ok(Bytes::new(out))
 }

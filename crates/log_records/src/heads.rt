@@ -1,7 +1,7 @@
 //! The head of a journal.
-ghost use Rattle.std.specs.Prelude.{◌≡◌, IfOk, length};
+ghost use Rattle.std.specs.Prelude.{◌≡◌, ◌≢◌, Err, IfOk, length};
 ghost use Rattle.log_records.specs.Heads.{head_at, head_bytes, head_of};
-ghost use Rattle.log_records.specs.Decoding.{Gives, Takes};
+ghost use Rattle.log_records.specs.Decoding.{Takes};
 
 use crate::decoder::Decoder;
 use crate::faults::DecodeFault;
@@ -19,7 +19,8 @@ pub struct Head {
 impl Decoder<'_> {
     #[tactic(auto, unfolding(crate::specs::Heads::head_at))]
     fn head(&mut self) -> Result<Head, DecodeFault>
-        ensures { Takes result (head_at self.old.whole self.old.rest.now) self.old self.new }
+        ensures takes { Takes result (head_at self.old.whole self.old.rest.now) self.old self.new }
+        ensures no_memory_taken { result ≢ Err DecodeFault.NoMemory }
     {
         let version = self.byte(1, 1)?;
         let text = self.text(32)?;
@@ -45,10 +46,10 @@ pub fn encode_head(alloc: Global, head: &Head) -> Result<Bytes, AllocError>
     Ok(Bytes::new(out))
 }
 
-/// The head that the whole input is; a byte left over is bad at its place.
+/// The head that the whole input is; a byte left over is bad at its place. It takes no memory.
 #[tactic(auto, unfolding(crate::specs::Heads::head_of))]
 pub fn decode_head(input: &[u8]) -> Result<Head, DecodeFault>
-    ensures { Gives result (head_of input.now) }
+    ensures { result ≡ head_of input.now }
 {
     let mut decoder = Decoder::new(input);
     let head = decoder.head()?;

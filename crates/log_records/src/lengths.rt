@@ -80,7 +80,7 @@ fn prepare_length(prepare: &Prepare) -> usize
     9 + reads_length(prepare.reads().items()) + writes_length(prepare.writes().items())
 }
 
-fn record_length(r: &Record) -> usize
+pub(crate) fn record_length(r: &Record) -> usize
     ensures value { result ≡ length (record_bytes r.now) }
     ensures most { result ≤ 18828 }
 {
