@@ -18,6 +18,7 @@ use Rattle.schedule_text.specs.declared.steps.Step.{Step}
 use Rattle.schedule_replay.specs.declared.refusal.ReplayRefusal.{ReplayRefusal}
 use Rattle.schedule_replay.specs.declared.report.Report.{Report}
 use Rattle.schedule_replay.specs.Progress.{reached, report_of}
+use Rattle.schedule_replay.specs.Refusals.{first_refusal}
 use Rattle.schedule_replay.specs.Replay.{IsCutShort, IsReport, Replays}
 use Rattle.schedule_replay.specs.Seats.{BenchStands}
 use Rattle.helios_top.specs.declared.replay.Told.{Told}
@@ -79,6 +80,7 @@ cut_at_the_end : (schedule : Schedule) (bench : List MemState) (report : Report)
 cut_at_the_end schedule bench report h = record {
   taken = length schedule.steps;
   few = omega arith;
+  unrefused = ap (first_refusal schedule.plan) (take_all (length schedule.steps) schedule.steps (omega arith)) ∙ h.0;
   stands = inl (subst (λ (steps : List Step). BenchStands schedule.plan (reached schedule.plan steps) bench)
       (sym (take_all (length schedule.steps) schedule.steps (omega arith))) h.2);
 }

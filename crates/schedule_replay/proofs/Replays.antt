@@ -9,13 +9,13 @@ use Rattle.schedule_text.specs.declared.steps.Step.{Step}
 use Rattle.schedule_replay.specs.declared.refusal.ReplayRefusal.{ReplayRefusal}
 use Rattle.schedule_replay.specs.declared.refusal.ReplayRefusal.TheVariants.{ReplayFull, NoSuchMessage, NotForSite, NoMemory}
 use Rattle.schedule_replay.specs.declared.report.Report.{Report}
-use Rattle.schedule_replay.specs.Progress.{progress, reached}
+use Rattle.schedule_replay.specs.Progress.{Progress, progress, reached}
 use Rattle.schedule_replay.specs.Refusals.{first_refusal, refusal_of}
 use Rattle.schedule_replay.specs.Replay.{Replays, StandsAfter}
 use Rattle.schedule_replay.specs.Seats.{BenchBetween, BenchStands}
 use Rattle.schedule_replay.specs.Walks.{IsNamedRefusal, IsWalkAt, RefusesAs}
 use Rattle.schedule_replay.specs.WalkStates.{WalkState}
-use Rattle.schedule_replay.proofs.Passes.{number_is, refusal_names, refusal_push, refused_front}
+use Rattle.schedule_replay.proofs.Passes.{number_is, refusal_at, refusal_names, refusal_push, refused_front}
 use Rattle.schedule_replay.proofs.Walking.{bench_stands}
 
 -- the steps up to a place and the one there
@@ -53,6 +53,16 @@ stands_at plan steps i number walk bench bench' low named h same =
           (subst (BenchStands plan (reached plan (take i steps))) (sym same) (bench_stands plan (take i steps) walk bench h)),
     )
 
+-- a step within which memory ran out was not to be refused
+not_refused : (T : Type 0) (p : Progress) (s : Step) → RefusesAs {T = T} (refusal_of p s) (Err NoMemory) → refusal_of p s ≡ None
+not_refused T p s told = by_case (refusal_of p s) refl told
+  where
+    by_case : (o : Option ReplayRefusal) → refusal_of p s ≡ o → RefusesAs {T = T} o (Err NoMemory) → o ≡ None
+    by_case None is told = refl
+    by_case (Some r) is told =
+        let same : r ≡ NoMemory = cc in
+        absurd (refusal_names p s NoMemory (is ∙ ap Some same))
+
 -- the step at a place was refused, or memory ran out within it
 pub replay_refused : (T : Type 0) (plan : PlanData) (steps : List Step) (i : ℕ) (s : Step) (walk : WalkState) (bench bench' : List MemState) (r : ReplayRefusal) → i < length steps → s ≡ get_or steps i s
     → first_refusal plan (take i steps) ≡ None → IsWalkAt plan (take i steps) walk bench
@@ -79,15 +89,16 @@ replay_refused T plan steps i s walk bench bench' r low at unrefused h told unmo
     by_refusal NoMemory told unmoved between = record {
       taken = i;
       few = omega arith;
-      stands = inr (low, λ d. subst (λ x. BenchBetween plan (progress plan (take i steps)) x bench') (at ∙ get_or_default steps i s d low) (between refl));
+      unrefused = unrefused;
+      stands = inr (low, refusal_at plan steps i s low at unrefused ∙ not_refused T (progress plan (take i steps)) s told, λ d. subst (λ x. BenchBetween plan (progress plan (take i steps)) x bench') (at ∙ get_or_default steps i s d low) (between refl));
     }
 
 -- memory ran out between two steps
 pub cut_short : (plan : PlanData) (steps : List Step) (i : ℕ) (bench : List MemState) (r : Result Report ReplayRefusal) → i ≤ length steps
-    → BenchStands plan (reached plan (take i steps)) bench → IsErrAnd r (λ e. e ≡ NoMemory) → Replays plan steps bench r
-cut_short plan steps i bench (Ok x) few h is = absurd is
-cut_short plan steps i bench (Err e) few h is =
-    subst (λ x. Replays plan steps bench (Err x)) (sym is) (record { taken = i; few = few; stands = inl h })
+    → first_refusal plan (take i steps) ≡ None → BenchStands plan (reached plan (take i steps)) bench → IsErrAnd r (λ e. e ≡ NoMemory) → Replays plan steps bench r
+cut_short plan steps i bench (Ok x) few unrefused h is = absurd is
+cut_short plan steps i bench (Err e) few unrefused h is =
+    subst (λ x. Replays plan steps bench (Err x)) (sym is) (record { taken = i; few = few; unrefused = unrefused; stands = inl h })
 
 pub safe_at : EachWorldIsSafe → (plan : PlanData) (w : World) → IsAccepted plan → StepsReach plan w → IsSafe plan w
 safe_at law plan w accepted h = subst (IsSafe plan) (sym h.reach) (law plan h.events h.may accepted)

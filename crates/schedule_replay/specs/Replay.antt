@@ -1,5 +1,5 @@
 -- What a replay gives for its steps.
-use Rattle.std.specs.Prelude.{◌≡◌, ◌⊎◌, ℕ, ◌<◌, ◌≤◌, List, length, take, slice_index_or, Some, None, Result, Ok, Err}
+use Rattle.std.specs.Prelude.{◌≡◌, ◌⊎◌, ℕ, ◌+◌, ◌<◌, ◌≤◌, List, length, take, slice_index_or, Some, None, Result, Ok, Err}
 use Rattle.helios_model.specs.Plans.{PlanData}
 use Rattle.disk_store.specs.Memory.{MemState}
 use Rattle.schedule_text.specs.declared.steps.Step.{Step}
@@ -21,12 +21,14 @@ pub record IsReport (plan : PlanData) (steps : List Step) (report : Report) : Ty
 abbrev pub StandsAfter : PlanData → List Step → List MemState → ℕ → Type 0
 StandsAfter plan steps bench k = (k ≤ length steps) × BenchStands plan (reached plan (take k steps)) bench
 
--- want of memory came between two steps or within one, whose batch may then be added
+-- want of memory came between two steps or within one, whose batch may then be added; no step that was begun was to be refused
 pub record IsCutShort (plan : PlanData) (steps : List Step) (bench : List MemState) : Type 0 where
   pub taken : ℕ
   pub few : taken ≤ length steps
+  pub unrefused : first_refusal plan (take taken steps) ≡ None
   pub stands : BenchStands plan (reached plan (take taken steps)) bench
-      ⊎ ((taken < length steps) × ((s : Step) → BenchBetween plan (progress plan (take taken steps)) (slice_index_or steps taken s) bench))
+      ⊎ ((taken < length steps) × (first_refusal plan (take (taken + 1) steps) ≡ None)
+      × ((s : Step) → BenchBetween plan (progress plan (take taken steps)) (slice_index_or steps taken s) bench))
 
 -- The report of the steps, where none is refused, and the bench stands for the journals that they reach; or the first refusal, and the bench stands
 -- for the journals of the steps before that one; or want of memory.

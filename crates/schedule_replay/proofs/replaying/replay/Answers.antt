@@ -47,13 +47,13 @@ loop-step-preserved c =
 
 pub returns-in_err-walk-clause-replays : goal.returns-in_err-walk-clause-replays
 returns-in_err-walk-clause-replays c =
-    cut_short c.args.schedule.now.plan c.args.schedule.now.steps 0 c.start.new.bench c.from_residual.result (omega arith)
+    cut_short c.args.schedule.now.plan c.args.schedule.now.steps 0 c.start.new.bench c.from_residual.result (omega arith) refl
     (subst (λ p. BenchStands c.args.schedule.now.plan p.world c.start.new.bench) (sym (progress_nil c.args.schedule.now.plan)) c.in_err-walk.ensures.empty) c.from_residual.ensures.1
 
 pub returns-in_err-report-clause-replays : goal.returns-in_err-report-clause-replays
 returns-in_err-report-clause-replays c =
     cut_short c.args.schedule.now.plan c.args.schedule.now.steps c.loop-step.step-index c.loop-step.bench c.from_residual-in_err-report.result
-    (omega (arith, ap length c.items-step-items.ensures, c.loop-step.auto.step-index-end))
+    (omega (arith, ap length c.items-step-items.ensures, c.loop-step.auto.step-index-end)) c.loop-step.invariant.unrefused
     (bench_stands c.args.schedule.now.plan (take c.loop-step.step-index c.args.schedule.now.steps) c.loop-step.walk c.loop-step.bench c.loop-step.invariant.stands)
     c.from_residual-in_err-report.ensures.1
 
