@@ -5,7 +5,7 @@ use Rattle.outside_io.specs.Causes.{Rose}
 use Rattle.outside_io.specs.Seen.{SourceSeen}
 use Rattle.outside_io.specs.Whole.{IsOverLimit, IsWholeInput, TakesAtMost}
 use Rattle.helios_top.specs.declared.words.Command.{Command}
-use Rattle.helios_top.specs.declared.words.Command.TheVariants.{Audit, Check, History, Plan, Replay, Trial}
+use Rattle.helios_top.specs.declared.words.Command.TheVariants.{Audit, Check, History, Plan, Replay, Trial, Weigh}
 use Rattle.helios_top.specs.declared.ending.Refusal.{Refusal}
 use Rattle.helios_top.specs.declared.ending.Refusal.TheVariants.{TooLarge}
 use Rattle.helios_top.specs.declared.ending.Ending.{Ending}
@@ -41,6 +41,7 @@ unread (Trial number) bytes idle = refl
 unread Check bytes idle = absurd (cc)
 unread Plan bytes idle = absurd (cc)
 unread Audit bytes idle = absurd (cc)
+unread Weigh bytes idle = absurd (cc)
 
 done_reads : (command : Command) (old new : SourceSeen) (ending : Ending) (Answers : List ℕ → Type 0) → IsDone ending → IsAnsweredInput command old new Answers
     → ReadsInput command old new ending Answers

@@ -8,7 +8,7 @@ use Rattle.history_audit.specs.declared.verdict.AuditVerdict.TheVariants as audi
 use Rattle.plan_certificate.specs.declared.verdict.Verdict.{Verdict}
 use Rattle.plan_certificate.specs.declared.verdict.Verdict.TheVariants as verdicts
 use Rattle.helios_top.specs.declared.words.Command.{Command}
-use Rattle.helios_top.specs.declared.words.Command.TheVariants.{Audit, Check, History, Plan, Replay, Trial}
+use Rattle.helios_top.specs.declared.words.Command.TheVariants.{Audit, Check, History, Plan, Replay, Trial, Weigh}
 use Rattle.helios_top.specs.declared.ending.Refusal.{Refusal}
 use Rattle.helios_top.specs.declared.ending.Ending.{Ending}
 use Rattle.helios_top.specs.declared.ending.Ending.TheVariants.{Usage, ReadFault, NoMemory, Refused, Printed, Judged, Audited}
@@ -287,5 +287,9 @@ is_run words before after ending status ends reads came writes later leaves unre
   audit = λ e. record {
     reads = named_ends (command_of words) Audit before.input after.input ending ends e;
     bench = named_leaves (command_of words) Audit before after ending leaves e;
+  };
+  weigh = λ e. record {
+    reads = named_ends (command_of words) Weigh before.input after.input ending ends e;
+    bench = named_leaves (command_of words) Weigh before after ending leaves e;
   };
 }

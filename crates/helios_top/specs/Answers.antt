@@ -3,7 +3,7 @@ use Rattle.std.specs.Prelude.{◌≡◌, ℕ, List, Option, Some, None}
 use Rattle.outside_io.specs.Seen.{SourceSeen}
 use Rattle.helios_top.specs.declared.replay.Told.TheVariants as told
 use Rattle.helios_top.specs.declared.words.Command.{Command}
-use Rattle.helios_top.specs.declared.words.Command.TheVariants.{Audit, Check, History, Plan, Replay, Trial}
+use Rattle.helios_top.specs.declared.words.Command.TheVariants.{Audit, Check, History, Plan, Replay, Trial, Weigh}
 use Rattle.helios_top.specs.declared.ending.Ending.{Ending}
 use Rattle.helios_top.specs.declared.ending.Ending.TheVariants.{Usage}
 use Rattle.helios_top.specs.Ending.{RefusedOr}
@@ -14,6 +14,7 @@ use Rattle.helios_top.specs.Runs.Audit.{IsAuditAnswer}
 use Rattle.helios_top.specs.Runs.Check.{IsCheckAnswer}
 use Rattle.helios_top.specs.Runs.Plan.{IsPlanAnswer}
 use Rattle.helios_top.specs.Runs.Trial.{IsTrialAnswer}
+use Rattle.helios_top.specs.Runs.Weigh.{IsWeighAnswer}
 
 -- what the command answers to bytes that it accepts
 abbrev pub IsAnswer : Command → Ending → List ℕ → Type 0
@@ -23,6 +24,7 @@ IsAnswer (Trial number) ending bytes = IsTrialAnswer number ending
 IsAnswer Check ending bytes = IsCheckAnswer ending bytes
 IsAnswer Plan ending bytes = IsPlanAnswer ending bytes
 IsAnswer Audit ending bytes = IsAuditAnswer ending bytes
+IsAnswer Weigh ending bytes = IsWeighAnswer ending bytes
 
 -- the end over what the command goes by
 abbrev pub EndsOver : Command → List ℕ → Ending → Type 0

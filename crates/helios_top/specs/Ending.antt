@@ -7,11 +7,12 @@ use Rattle.rtt_matrix.specs.Lines as matrix
 use Rattle.schedule_text.specs.Lines as schedule
 use Rattle.history_audit.specs.Lines as history
 use Rattle.schedule_replay.specs.Refusals as steps
+use Rattle.weighted_plan.specs.Lines as weights
 use Rattle.outside_io.specs.Causes.{Rose}
 use Rattle.outside_io.specs.Seen.{SinkSeen}
 use Rattle.outside_io.specs.Whole.{AppendsPrefix}
 use Rattle.helios_top.specs.declared.ending.Refusal.{Refusal}
-use Rattle.helios_top.specs.declared.ending.Refusal.TheVariants.{OfHistory, OfMatrix, OfPlan, OfReplay, OfSchedule, TooLarge}
+use Rattle.helios_top.specs.declared.ending.Refusal.TheVariants.{OfHistory, OfMatrix, OfPlan, OfReplay, OfSchedule, OfWeights, TooLarge}
 use Rattle.helios_top.specs.declared.ending.Ending.{Ending}
 use Rattle.helios_top.specs.declared.ending.Ending.TheVariants.{Usage, ReadFault, NoMemory, Refused, Printed, Judged, Audited}
 use Rattle.helios_top.specs.Verdicts.{audit_line, audit_status, verdict_status, verdict_text}
@@ -28,6 +29,7 @@ refusal_text (OfReplay refusal) = steps.refusal_text refusal
 refusal_text (OfPlan refusal) = plan.refusal_text refusal
 refusal_text (OfMatrix refusal) = matrix.refusal_text refusal
 refusal_text (OfHistory refusal) = history.refusal_text refusal
+refusal_text (OfWeights refusal) = weights.refusal_text refusal
 
 -- the exit status of each end
 abbrev pub status_of : Ending → ℕ

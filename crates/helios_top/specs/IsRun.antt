@@ -3,7 +3,7 @@ use Rattle.std.specs.Prelude.{◌≡◌, ◌≢◌, ℕ, ◌≤◌, ◌⊎◌, L
 use Rattle.std.specs.Io.KnownBytes.{Appends}
 use Rattle.outside_io.specs.Causes.{Rose}
 use Rattle.helios_top.specs.declared.words.Command.{Command}
-use Rattle.helios_top.specs.declared.words.Command.TheVariants.{Audit, Check, History, Plan, Replay, Trial}
+use Rattle.helios_top.specs.declared.words.Command.TheVariants.{Audit, Check, History, Plan, Replay, Trial, Weigh}
 use Rattle.helios_top.specs.declared.ending.Refusal.{Refusal}
 use Rattle.helios_top.specs.declared.ending.Ending.{Ending}
 use Rattle.helios_top.specs.declared.ending.Ending.TheVariants.{Usage, ReadFault, NoMemory, Refused}
@@ -17,6 +17,7 @@ use Rattle.helios_top.specs.Runs.History.{HistoryRun}
 use Rattle.helios_top.specs.Runs.Plan.{PlanRun}
 use Rattle.helios_top.specs.Runs.Replay.{ReplayRun}
 use Rattle.helios_top.specs.Runs.Trial.{TrialRun}
+use Rattle.helios_top.specs.Runs.Weigh.{WeighRun}
 use Rattle.helios_top.specs.Words.{command_of}
 
 -- exactly this was written
@@ -60,3 +61,4 @@ pub record IsRun (words : List (List ℕ)) (before after : Outside) (status : �
   pub check : command_of words ≡ Some Check → CheckRun before after ending
   pub plan : command_of words ≡ Some Plan → PlanRun before after ending
   pub audit : command_of words ≡ Some Audit → AuditRun before after ending
+  pub weigh : command_of words ≡ Some Weigh → WeighRun before after ending

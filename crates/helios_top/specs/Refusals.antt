@@ -1,16 +1,19 @@
 -- Why a command refuses what it goes by, in the order of the ends of a run: the length of the input first, then its form.
 use Rattle.std.specs.Prelude.{Bool, true, false, not, ◌&&◌, ℕ, List, length, nat_lt, Option, Some, None, option_map, Result, Ok, Err, if◌then◌else◌}
 use Rattle.commit_offsets.specs.Reading.{plan_of_text}
+use Rattle.helios_model.specs.Plans.{MatrixData}
 use Rattle.history_audit.specs.Reading.{history_of_text}
+use Rattle.rtt_matrix.specs.declared.refusal.MatrixRefusal.{MatrixRefusal}
 use Rattle.rtt_matrix.specs.Reading.{matrix_of_text}
 use Rattle.schedule_text.specs.declared.refusal.ScheduleRefusal.{ScheduleRefusal}
 use Rattle.schedule_text.specs.declared.steps.Schedule.{Schedule}
 use Rattle.schedule_text.specs.Reading.{schedule_of_text}
 use Rattle.schedule_replay.specs.Refusals.{first_refusal}
+use Rattle.weighted_plan.specs.Reading.{weights_of_text}
 use Rattle.helios_top.specs.declared.words.Command.{Command}
-use Rattle.helios_top.specs.declared.words.Command.TheVariants.{Audit, Check, History, Plan, Replay, Trial}
+use Rattle.helios_top.specs.declared.words.Command.TheVariants.{Audit, Check, History, Plan, Replay, Trial, Weigh}
 use Rattle.helios_top.specs.declared.ending.Refusal.{Refusal}
-use Rattle.helios_top.specs.declared.ending.Refusal.TheVariants.{OfHistory, OfMatrix, OfPlan, OfReplay, OfSchedule, TooLarge}
+use Rattle.helios_top.specs.declared.ending.Refusal.TheVariants.{OfHistory, OfMatrix, OfPlan, OfReplay, OfSchedule, OfWeights, TooLarge}
 use Rattle.helios_top.specs.Outside.{most_input_bytes}
 use Rattle.helios_top.specs.Trials.{trial_schedule}
 
@@ -28,6 +31,15 @@ abbrev pub replay_refusal_in : Result Schedule ScheduleRefusal → Option Refusa
 replay_refusal_in (Ok schedule) = replay_refusal schedule
 replay_refusal_in (Err e) = Some (OfSchedule e)
 
+-- why the weights of a text are refused, once its matrix was read: there is one for each of its sites
+abbrev pub weights_refusal : List ℕ → MatrixData → Option Refusal
+weights_refusal bytes matrix = refusal_in OfWeights (weights_of_text (length matrix.names) bytes)
+
+-- a text that is no matrix is refused as one, and a matrix for its weights
+abbrev pub weights_refusal_in : List ℕ → Result MatrixData MatrixRefusal → Option Refusal
+weights_refusal_in bytes (Ok matrix) = weights_refusal bytes matrix
+weights_refusal_in bytes (Err e) = Some (OfMatrix e)
+
 -- whether the command reads the input
 abbrev pub reads_input : Command → Bool
 reads_input Replay = true
@@ -36,6 +48,7 @@ reads_input (Trial number) = false
 reads_input Check = true
 reads_input Plan = true
 reads_input Audit = true
+reads_input Weigh = true
 
 -- whether a run of these words leaves the input as it is
 abbrev pub leaves_input : Option Command → Bool
@@ -50,6 +63,7 @@ form_refusal_of (Trial number) bytes = replay_refusal (trial_schedule number)
 form_refusal_of Check bytes = refusal_in OfPlan (plan_of_text bytes)
 form_refusal_of Plan bytes = refusal_in OfMatrix (matrix_of_text bytes)
 form_refusal_of Audit bytes = refusal_in OfHistory (history_of_text bytes)
+form_refusal_of Weigh bytes = weights_refusal_in bytes (matrix_of_text bytes)
 
 -- why the command refuses the bytes; none where it accepts them
 abbrev pub refusal_of : Command → List ℕ → Option Refusal

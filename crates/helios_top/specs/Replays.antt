@@ -24,7 +24,7 @@ use Rattle.schedule_replay.specs.Seats.{BenchStands}
 use Rattle.helios_top.specs.declared.replay.Told.{Told}
 use Rattle.helios_top.specs.declared.replay.Told.TheVariants as told
 use Rattle.helios_top.specs.declared.ending.Refusal.{Refusal}
-use Rattle.helios_top.specs.declared.ending.Refusal.TheVariants.{OfHistory, OfMatrix, OfPlan, OfReplay, OfSchedule, TooLarge}
+use Rattle.helios_top.specs.declared.ending.Refusal.TheVariants.{OfHistory, OfMatrix, OfPlan, OfReplay, OfSchedule, OfWeights, TooLarge}
 use Rattle.helios_top.specs.declared.ending.Ending.{Ending}
 use Rattle.helios_top.specs.declared.ending.Ending.TheVariants.{Usage, ReadFault, NoMemory, Refused, Printed, Judged, Audited}
 use Rattle.helios_top.specs.Inputs.{ReadWhole}
@@ -83,6 +83,7 @@ IsLeftRefused schedule bench (OfReplay refusal) =
 IsLeftRefused schedule bench (OfPlan refusal) = ⊥
 IsLeftRefused schedule bench (OfMatrix refusal) = ⊥
 IsLeftRefused schedule bench (OfHistory refusal) = ⊥
+IsLeftRefused schedule bench (OfWeights refusal) = ⊥
 
 -- The bench after the replay of a schedule, by its end. Status 0: each site's disk holds its journal in the world that is reported. 5: each holds its
 -- journal in the world before the refused step. 4: each holds its journal in the world between two steps, or within one.
@@ -104,6 +105,7 @@ IsOfText (OfReplay refusal) = ⊥
 IsOfText (OfPlan refusal) = ⊥
 IsOfText (OfMatrix refusal) = ⊥
 IsOfText (OfHistory refusal) = ⊥
+IsOfText (OfWeights refusal) = ⊥
 
 -- an end that comes before the replay: 2, or 4, or 5 with a refusal of the text
 abbrev pub IsBeforeReplay : Ending → Type 0

@@ -5,3 +5,4 @@ pub mod History
 pub mod Plan
 pub mod Replay
 pub mod Trial
+pub mod Weigh

@@ -4,7 +4,7 @@ use Rattle.std.specs.Str.{bytes_eq}
 use Rattle.std.specs.declared.alloc.Global.{Global}
 use Rattle.helios_model.specs.Spellings.{number_of}
 use Rattle.helios_top.specs.declared.words.Command.{Command}
-use Rattle.helios_top.specs.declared.words.Command.TheVariants.{Audit, Check, History, Plan, Replay, Trial}
+use Rattle.helios_top.specs.declared.words.Command.TheVariants.{Audit, Check, History, Plan, Replay, Trial, Weigh}
 
 -- the bytes of each word
 abbrev pub texts : List (String Global) → List (List ℕ)
@@ -16,7 +16,8 @@ command_alone word =
     if bytes_eq word (codes "replay") then Some Replay
     else (if bytes_eq word (codes "check") then Some Check
     else (if bytes_eq word (codes "plan") then Some Plan
-    else (if bytes_eq word (codes "audit") then Some Audit else None)))
+    else (if bytes_eq word (codes "audit") then Some Audit
+    else (if bytes_eq word (codes "weigh") then Some Weigh else None))))
 
 -- `replay` with a word behind it
 abbrev pub history_asked : List ℕ → Option Command
@@ -32,7 +33,7 @@ command_with word argument =
     if bytes_eq word (codes "replay") then history_asked argument
     else (if bytes_eq word (codes "trial") then trial_of argument else None)
 
--- the command that the words name: one of `replay`, `check`, `plan`, `audit`, `replay --history` and `trial NUMBER`, and no other words
+-- the command that the words name: one of `replay`, `check`, `plan`, `audit`, `weigh`, `replay --history` and `trial NUMBER`, and no other words
 abbrev pub command_of : List (List ℕ) → Option Command
 command_of [] = None
 command_of (word ∷ []) = command_alone word

@@ -11,6 +11,7 @@ use schedule_replay::ReplayRefusal;
 use schedule_text::ScheduleRefusal;
 use std::alloc::{AllocError, Global};
 use std::fmt;
+use weighted_plan::WeightsRefusal;
 
 /// The program's exit status.
 #[derive(Clone, Copy, Debug, PartialEq, Eq)]
@@ -31,6 +32,8 @@ pub enum Refusal {
     OfMatrix(MatrixRefusal),
     /// The text of a history breaks a rule.
     OfHistory(HistoryRefusal),
+    /// The weights of a text whose matrix was read break a rule.
+    OfWeights(WeightsRefusal),
 }
 
 /// How a run ends.
@@ -63,6 +66,7 @@ impl fmt::Display for Refusal {
             Refusal::OfPlan(refusal) => write!(f, "{refusal}"),
             Refusal::OfMatrix(refusal) => write!(f, "{refusal}"),
             Refusal::OfHistory(refusal) => write!(f, "{refusal}"),
+            Refusal::OfWeights(refusal) => write!(f, "{refusal}"),
         }
     }
 }

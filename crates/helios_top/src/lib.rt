@@ -10,6 +10,7 @@ mod plan;
 mod replay;
 mod top;
 mod trial;
+mod weigh;
 mod words;
 
 pub use ending::{Ending, Refusal, Status};

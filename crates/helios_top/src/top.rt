@@ -13,7 +13,9 @@ ghost use Rattle.helios_top.specs.Words.{command_of, texts};
 
 use crate::replay::Told;
 use crate::words::read_words;
-use crate::{Command, Ending, INPUT_LIMIT, Refusal, Status, audit, check, plan, replay, trial};
+use crate::{
+    Command, Ending, INPUT_LIMIT, Refusal, Status, audit, check, plan, replay, trial, weigh,
+};
 use disk_store::Bench;
 use outside_io::{InputError, Sink, Source, read_whole, write_whole};
 use std::alloc::{AllocError, Global};
@@ -133,6 +135,7 @@ fn answer(
         Command::Check => check::answer(alloc, input),
         Command::Plan => plan::answer(alloc, input),
         Command::Audit => audit::answer(alloc, input),
+        Command::Weigh => weigh::answer(alloc, input),
     }
 }
 

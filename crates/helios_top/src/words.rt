@@ -19,6 +19,8 @@ pub enum Command {
     Plan,
     /// The verdict on a history.
     Audit,
+    /// The plan of a matrix with the least weighted sum of latencies.
+    Weigh,
 }
 
 impl Command {
@@ -28,8 +30,12 @@ impl Command {
     {
         match self {
             Command::Trial(_) => false,
-            Command::Replay | Command::History | Command::Check | Command::Plan | Command::Audit =>
-                true,
+            Command::Replay
+            | Command::History
+            | Command::Check
+            | Command::Plan
+            | Command::Audit
+            | Command::Weigh => true,
         }
     }
 }
@@ -54,6 +60,7 @@ fn command_alone(word: &str) -> Option<Command>
         "check" => Some(Command::Check),
         "plan" => Some(Command::Plan),
         "audit" => Some(Command::Audit),
+        "weigh" => Some(Command::Weigh),
         _ => None,
     }
 }
