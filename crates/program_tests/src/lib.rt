@@ -16,3 +16,5 @@ mod replays;
 mod runs;
 #[cfg(test)]
 mod sizes;
+#[cfg(test)]
+mod weights;

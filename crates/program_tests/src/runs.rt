@@ -76,7 +76,7 @@ pub(crate) fn outcome_of(
 
 #[test]
 fn takes_its_words_and_no_others(rt: HostRuntime) -> Result<(), Fail> {
-    let cases: [(&[&str], u8, &str); 18] = [
+    let cases: [(&[&str], u8, &str); 20] = [
         (&["replay"], 0, REPORT),
         (&["replay", "--history"], 0, "[]\n"),
         (&[], 1, USAGE),
@@ -85,6 +85,8 @@ fn takes_its_words_and_no_others(rt: HostRuntime) -> Result<(), Fail> {
         (&["--history", "replay"], 1, USAGE),
         (&["check", "--history"], 1, USAGE),
         (&["audit", "x"], 1, USAGE),
+        (&["weigh", "x"], 1, USAGE),
+        (&["weights"], 1, USAGE),
         (&["history"], 1, USAGE),
         (&["trial"], 1, USAGE),
         (&["trial", ""], 1, USAGE),
