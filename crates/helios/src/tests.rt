@@ -3,6 +3,7 @@ use std::alloc::Allocator;
 use std::cell::Cell;
 use std::env::FillError;
 use std::fmt::Display;
+use std::fs;
 use std::io::{BufRead, ErrorKind, Lines, Read};
 use std::rt::Env;
 
@@ -13,6 +14,13 @@ const EMPTY: &[u8] =
 const REPORT: &[u8] = b"site 0 time 0 log 0 pending 0\n";
 
 const USAGE: &[u8] = b"usage: helios COMMAND [WORDS]\n";
+
+/// The plan of one site.
+const ALONE: &[u8] =
+    br#"{"latency":[0],"names":["A"],"offset":[[0]],"pair":[0],"rtt":[[0]],"total":0,"version":1}"#;
+
+/// The dump of a journal that holds nothing.
+const NO_RECORDS: &[u8] = b"{\"records\":[],\"site\":0}\n";
 
 /// A plan of two sites whose latencies are too small.
 const SHORT: &[u8] =
@@ -61,11 +69,15 @@ fn started(words: &'static [&'static [u8]], typed: Typed, due: &'static [u8]) ->
     }
 }
 
-/// The status of the process's run over its streams.
-fn status_of(over: &(impl Input + Print + AllocGlobal), all: io::Result<env::Args>) -> u8 {
+/// The status of the process's run over its streams, and over the files of the folder that the test runs in.
+fn status_of(
+    rt: &HostRuntime,
+    over: &(impl Input + Print + AllocGlobal),
+    all: io::Result<env::Args>,
+) -> u8 {
     let mut input = StdSource::over(over);
     let mut output = StdSink::over(over);
-    run_command_line(over.alloc(), all, &mut input, &mut output)
+    run_command_line(rt, over.alloc(), all, &mut input, &mut output)
 }
 
 impl Env for Process {
@@ -148,7 +160,7 @@ fn ends_as_the_words_and_the_input_ask(rt: HostRuntime) {
             is_broken: false,
         };
         let over = (started(words, typed, due), rt.alloc());
-        assert_eq!(rt; status_of(&over, env::args(&over)), status);
+        assert_eq!(rt; status_of(&rt, &over, env::args(&over)), status);
         let failed = usize::from(status == 3);
         assert_eq!(rt; over.0.writes.get(), due.len().saturating_add(failed));
     }
@@ -164,9 +176,71 @@ fn ends_by_faults(rt: HostRuntime) {
         started(&[b"helios", b"check"], broken, b"fault read\n"),
         rt.alloc(),
     );
-    assert_eq!(rt; status_of(&unread, env::args(&unread)), 2);
+    assert_eq!(rt; status_of(&rt, &unread, env::args(&unread)), 2);
     assert_eq!(rt; unread.0.writes.get(), 11);
     let wordless = (started(&[], broken, b""), rt.alloc());
-    assert_eq!(rt; status_of(&wordless, Err(ErrorKind::OutOfMemory.into())), 4);
+    assert_eq!(rt;
+        status_of(&rt, &wordless, Err(ErrorKind::OutOfMemory.into())),
+        4
+    );
     assert_eq!(rt; wordless.0.writes.get(), 0);
+}
+
+/// The status of these words over the plan of one site, and how many bytes of the line were written.
+fn run_on_plan(
+    rt: &HostRuntime,
+    words: &'static [&'static [u8]],
+    due: &'static [u8],
+) -> (u8, usize) {
+    let typed = Typed {
+        bytes: ALONE,
+        is_broken: false,
+    };
+    let over = (started(words, typed, due), rt.alloc());
+    let status = status_of(rt, &over, env::args(&over));
+    (status, over.0.writes.get())
+}
+
+/// The length of the file of the journal, where there is one.
+fn journal_length(rt: &HostRuntime) -> Option<u64> {
+    match fs::metadata(rt, JOURNAL) {
+        Ok(metadata) => Some(metadata.len()),
+        Err(_) => None,
+    }
+}
+
+#[test]
+fn only_a_dump_opens_the_journal(rt: HostRuntime) {
+    let _earlier = fs::remove_file(&rt, JOURNAL);
+    // The words, their status and their line, and the length of the file behind them. The file is made before the words
+    // are looked at, and holds one byte once it was read.
+    let cases: [(&[&[u8]], u8, &[u8], Option<u64>); 6] = [
+        (&[b"helios", b"check"], 0, b"optimal 0\n", None),
+        (&[b"helios", b"audit", b"dump"], 1, USAGE, None),
+        (&[b"helios", b"dump"], 1, USAGE, Some(0)),
+        (
+            &[b"helios", b"dump", b"1"],
+            5,
+            b"refused no-such-site 1\n",
+            Some(0),
+        ),
+        (&[b"helios", b"dump", b"0"], 0, NO_RECORDS, Some(1)),
+        (&[b"helios", b"dump", b"0"], 0, NO_RECORDS, Some(1)),
+    ];
+    for (words, status, due, length) in cases {
+        let got = run_on_plan(&rt, words, due);
+        assert_eq!(rt; got, (status, due.len()));
+        assert_eq!(rt; journal_length(&rt), length);
+    }
+}
+
+#[test]
+fn a_journal_that_is_no_file_is_a_fault_without_a_line(rt: HostRuntime) {
+    let _earlier = fs::remove_file(&rt, JOURNAL);
+    let _made = fs::create_dir(&rt, JOURNAL);
+    let dumped = run_on_plan(&rt, &[b"helios", b"dump", b"0"], b"");
+    let checked = run_on_plan(&rt, &[b"helios", b"check"], b"optimal 0\n");
+    let _removed = fs::remove_dir(&rt, JOURNAL);
+    assert_eq!(rt; dumped, (6, 0));
+    assert_eq!(rt; checked, (0, 10));
 }

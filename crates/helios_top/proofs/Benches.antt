@@ -6,7 +6,7 @@ use Rattle.outside_io.specs.Whole.{IsWholeInput}
 use Rattle.helios_top.specs.declared.replay.Told.{Told}
 use Rattle.helios_top.specs.declared.replay.Told.TheVariants as told
 use Rattle.helios_top.specs.declared.words.Command.{Command}
-use Rattle.helios_top.specs.declared.words.Command.TheVariants.{Audit, Check, History, Plan, Replay, Trial, Weigh}
+use Rattle.helios_top.specs.declared.words.Command.TheVariants.{Audit, Check, Dump, History, Plan, Replay, Trial, Weigh}
 use Rattle.helios_top.specs.declared.ending.Ending.{Ending}
 use Rattle.helios_top.specs.Benches.{Leaves, LeavesOver, ReplayLeavesOver}
 use Rattle.helios_top.specs.Outside.{most_input_bytes}
@@ -27,6 +27,7 @@ bench_left Check old new bytes held left ending whole fits h = h
 bench_left Plan old new bytes held left ending whole fits h = h
 bench_left Audit old new bytes held left ending whole fits h = h
 bench_left Weigh old new bytes held left ending whole fits h = h
+bench_left (Dump site) old new bytes held left ending whole fits h = h
 
 pub bench_unread : (command : Command) (old new : SourceSeen) (held left : List MemState) (ending : Ending) → reads_input command ≡ false
     → LeavesOver command [] held left ending → Leaves command old new held left ending
@@ -37,3 +38,4 @@ bench_unread Check old new held left ending idle h = absurd (cc)
 bench_unread Plan old new held left ending idle h = absurd (cc)
 bench_unread Audit old new held left ending idle h = absurd (cc)
 bench_unread Weigh old new held left ending idle h = absurd (cc)
+bench_unread (Dump site) old new held left ending idle h = absurd (cc)

@@ -1,17 +1,20 @@
 -- How a run comes to its end by what its command goes by, and what each end shows.
-use Rattle.std.proofs.Common.{◌≡◌, ℕ, ◌<◌, ◌≤◌, ◌⊎◌, inl, inr, Bool, true, false, ◌&&◌, nat_lt, List, [], ◌++◌, Option, Some, None, IfSome, length, if◌then◌else◌, refl, sym, ◌∙◌, ap, subst, arith, append-nil}
+use Rattle.std.proofs.Common.{◌≡◌, ℕ, ◌+◌, ◌<◌, ◌≤◌, ◌⊎◌, inl, inr, Bool, true, false, ◌&&◌, nat_lt, List, [], ◌++◌, Option, Some, None, IfSome, length, Result, Ok, Err, if◌then◌else◌, refl, sym, ◌∙◌, ap, subst, arith, append-nil}
+use Rattle.std.specs.Prelude.{IfOk}
+use Rattle.std.specs.declared.alloc.AllocError.{AllocError}
 use Rattle.std.proofs.lemmas.Bool.{false_from_ne_true, lt-ltb, ltb-true}
 use Rattle.outside_io.specs.Causes.{Rose}
 use Rattle.outside_io.specs.Seen.{SourceSeen}
 use Rattle.outside_io.specs.Whole.{IsOverLimit, IsWholeInput, TakesAtMost}
 use Rattle.helios_top.specs.declared.words.Command.{Command}
-use Rattle.helios_top.specs.declared.words.Command.TheVariants.{Audit, Check, History, Plan, Replay, Trial, Weigh}
+use Rattle.helios_top.specs.declared.words.Command.TheVariants.{Audit, Check, Dump, History, Plan, Replay, Trial, Weigh}
 use Rattle.helios_top.specs.declared.ending.Refusal.{Refusal}
+use Rattle.helios_top.specs.declared.journal.JournalRefusal.{JournalRefusal}
 use Rattle.helios_top.specs.declared.ending.Refusal.TheVariants.{TooLarge}
 use Rattle.helios_top.specs.declared.ending.Ending.{Ending}
-use Rattle.helios_top.specs.declared.ending.Ending.TheVariants.{Usage, ReadFault, NoMemory, Refused, Printed, Judged, Audited}
+use Rattle.helios_top.specs.declared.ending.Ending.TheVariants.{Usage, ReadFault, NoMemory, Refused, DiskFault, JournalRefused, Printed, Judged, Audited}
 use Rattle.helios_top.specs.Answers.{EndsOver, IsAnswer}
-use Rattle.helios_top.specs.Ending.{IsDone, RefusedOr}
+use Rattle.helios_top.specs.Ending.{IsDone, IsOwn, RefusedOr, end_of}
 use Rattle.helios_top.specs.Inputs.{GoesBy, IsAnsweredInput, IsRefusedInput, ReadWhole, ReadsInput}
 use Rattle.helios_top.specs.Outside.{most_input_bytes}
 use Rattle.helios_top.specs.Refusals.{form_refusal_of, reads_input, refusal_of}
@@ -42,21 +45,24 @@ unread Check bytes idle = absurd (cc)
 unread Plan bytes idle = absurd (cc)
 unread Audit bytes idle = absurd (cc)
 unread Weigh bytes idle = absurd (cc)
+unread (Dump site) bytes idle = absurd (cc)
 
-done_reads : (command : Command) (old new : SourceSeen) (ending : Ending) (Answers : List ℕ → Type 0) → IsDone ending → IsAnsweredInput command old new Answers
+own_reads : (command : Command) (old new : SourceSeen) (ending : Ending) (Answers : List ℕ → Type 0) → IsOwn ending → IsAnsweredInput command old new Answers
     → ReadsInput command old new ending Answers
-done_reads command old new Usage Answers done h = absurd done
-done_reads command old new ReadFault Answers done h = absurd done
-done_reads command old new NoMemory Answers done h = absurd done
-done_reads command old new (Refused refusal) Answers done h = absurd done
-done_reads command old new (Printed text) Answers done h = h
-done_reads command old new (Judged verdict) Answers done h = h
-done_reads command old new (Audited verdict) Answers done h = h
+own_reads command old new Usage Answers own h = absurd own
+own_reads command old new ReadFault Answers own h = absurd own
+own_reads command old new NoMemory Answers own h = absurd own
+own_reads command old new (Refused refusal) Answers own h = absurd own
+own_reads command old new DiskFault Answers own h = h
+own_reads command old new (JournalRefused refusal) Answers own h = h
+own_reads command old new (Printed text) Answers own h = h
+own_reads command old new (Judged verdict) Answers own h = h
+own_reads command old new (Audited verdict) Answers own h = h
 
 -- what is answered to bytes that the command goes by
 answers_by : (command : Command) (old new : SourceSeen) (bytes : List ℕ) (ending : Ending) (Answers : List ℕ → Type 0) (found : Option Refusal) → form_refusal_of command bytes ≡ found
     → ((Holds : List ℕ → Type 0) → Holds bytes → GoesBy command old new Holds) → RefusedOr found ending (Answers bytes) → ReadsInput command old new ending Answers
-answers_by command old new bytes ending Answers None e goes h = done_reads command old new ending Answers h.0 (goes (λ b. (form_refusal_of command b ≡ None) × Answers b) (e, h.1))
+answers_by command old new bytes ending Answers None e goes h = own_reads command old new ending Answers h.0 (goes (λ b. (form_refusal_of command b ≡ None) × Answers b) (e, h.1))
 answers_by command old new bytes ending Answers (Some refusal) e goes h =
     subst (λ (end : Ending). ReadsInput command old new end Answers) (sym h) (inr (goes (λ b. form_refusal_of command b ≡ Some refusal) e))
 
@@ -66,6 +72,18 @@ pub answers_input : (command : Command) (old new : SourceSeen) (bytes : List ℕ
 answers_input command old new bytes ending reads whole fits h =
     answers_by command old new bytes ending (IsAnswer command ending) (form_refusal_of command bytes) refl
     (λ Holds held. inl (reads, record { bytes = bytes; is_whole = whole; fits = fits; holds = held })) h
+
+-- the end that an answer to the bytes of a whole input is, or want of memory in place of it
+pub answered_input : (command : Command) (old new : SourceSeen) (bytes given : List ℕ) (size : ℕ) (answer : Result Ending AllocError) (ending : Ending)
+    → reads_input command ≡ true → IsWholeInput old.left new.left bytes → size ≤ most_input_bytes → given ≡ bytes → length given ≡ size
+    → IfOk answer (EndsOver command given) → TakesAtMost (most_input_bytes + 1) old.left new.left → ending ≡ end_of answer
+    → ReadsInput command old new ending (IsAnswer command ending)
+answered_input command old new bytes given size (Ok end) ending reads whole fits same len h most e =
+    let all : IsWholeInput old.left new.left given = subst (λ (b : List ℕ). IsWholeInput old.left new.left b) (sym same) whole in
+    let few : length given ≤ most_input_bytes = omega arith in
+    subst (λ (x : Ending). ReadsInput command old new x (IsAnswer command x)) (sym e) (answers_input command old new given end reads all few h)
+answered_input command old new bytes given size (Err none) ending reads whole fits same len h most e =
+    subst (λ (x : Ending). ReadsInput command old new x (IsAnswer command x)) (sym e) most
 
 -- what is answered where nothing is read
 pub answers_unread : (command : Command) (old new : SourceSeen) (ending : Ending) → reads_input command ≡ false → EndsOver command [] ending
@@ -120,20 +138,25 @@ refused_or_fault command old new ReadFault Answers bytes refusal told h e = inr 
 refused_or_fault command old new NoMemory Answers bytes refusal told h e = inr (inr refl)
 refused_or_fault command old new (Refused given) Answers bytes refusal told h e =
     let own = refused_told command old new given bytes told h in let same : given ≡ refusal = cc in inl (ap Refused same)
+refused_or_fault command old new DiskFault Answers bytes refusal told h e = let own = accepted_told command old new Answers bytes told h in cc
+refused_or_fault command old new (JournalRefused given) Answers bytes refusal told h e = let own = accepted_told command old new Answers bytes told h in cc
 refused_or_fault command old new (Printed text) Answers bytes refusal told h e = let own = accepted_told command old new Answers bytes told h in cc
 refused_or_fault command old new (Judged verdict) Answers bytes refusal told h e = let own = accepted_told command old new Answers bytes told h in cc
 refused_or_fault command old new (Audited verdict) Answers bytes refusal told h e = let own = accepted_told command old new Answers bytes told h in cc
 
--- an input that is accepted is answered, unless a read failed or there was no memory
+-- an input that is accepted is answered, unless a read or a call on the disk failed, or there was no memory, or the journal was refused
 pub done_or_no_memory : (command : Command) (old new : SourceSeen) (ending : Ending) (Answers : List ℕ → Type 0) (bytes : List ℕ) → old.left ≡ Some bytes
-    → ReadsInput command old new ending Answers → refusal_of command bytes ≡ None → ¬ Rose old.faults new.faults → IsDone ending ⊎ (ending ≡ NoMemory)
-done_or_no_memory command old new Usage Answers bytes told h e still = absurd h
-done_or_no_memory command old new ReadFault Answers bytes told h e still = absurd (still h.1)
-done_or_no_memory command old new NoMemory Answers bytes told h e still = inr refl
-done_or_no_memory command old new (Refused given) Answers bytes told h e still = let own = refused_told command old new given bytes told h in cc
-done_or_no_memory command old new (Printed text) Answers bytes told h e still = inl tt
-done_or_no_memory command old new (Judged verdict) Answers bytes told h e still = inl tt
-done_or_no_memory command old new (Audited verdict) Answers bytes told h e still = inl tt
+    → ReadsInput command old new ending Answers → refusal_of command bytes ≡ None → ¬ Rose old.faults new.faults → (ending ≡ DiskFault → ⊥)
+    → IsDone ending ⊎ (ending ≡ NoMemory) ⊎ ((refusal : JournalRefusal) × (ending ≡ JournalRefused refusal))
+done_or_no_memory command old new Usage Answers bytes told h e still sound = absurd h
+done_or_no_memory command old new ReadFault Answers bytes told h e still sound = absurd (still h.1)
+done_or_no_memory command old new NoMemory Answers bytes told h e still sound = inr (inl refl)
+done_or_no_memory command old new (Refused given) Answers bytes told h e still sound = let own = refused_told command old new given bytes told h in cc
+done_or_no_memory command old new DiskFault Answers bytes told h e still sound = absurd (sound refl)
+done_or_no_memory command old new (JournalRefused refusal) Answers bytes told h e still sound = inr (inr (refusal, refl))
+done_or_no_memory command old new (Printed text) Answers bytes told h e still sound = inl tt
+done_or_no_memory command old new (Judged verdict) Answers bytes told h e still sound = inl tt
+done_or_no_memory command old new (Audited verdict) Answers bytes told h e still sound = inl tt
 
 pub refused_is_own : (command : Command) (old new : SourceSeen) (refusal : Refusal) → IsRefusedInput command old new refusal → IfSome old.left (λ bytes. refusal_of command bytes ≡ Some refusal)
 refused_is_own command old new refusal h = if_told old.left _ (λ bytes told. refused_told command old new refusal bytes told h)

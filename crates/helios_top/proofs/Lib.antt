@@ -1,6 +1,8 @@
 pub mod Benches
 pub mod Checks
 pub mod Commands
+pub mod Disks
+pub mod Dumps
 pub mod Inputs
 pub mod Lines
 pub mod Replays

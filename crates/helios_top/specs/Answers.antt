@@ -3,7 +3,7 @@ use Rattle.std.specs.Prelude.{◌≡◌, ℕ, List, Option, Some, None}
 use Rattle.outside_io.specs.Seen.{SourceSeen}
 use Rattle.helios_top.specs.declared.replay.Told.TheVariants as told
 use Rattle.helios_top.specs.declared.words.Command.{Command}
-use Rattle.helios_top.specs.declared.words.Command.TheVariants.{Audit, Check, History, Plan, Replay, Trial, Weigh}
+use Rattle.helios_top.specs.declared.words.Command.TheVariants.{Audit, Check, Dump, History, Plan, Replay, Trial, Weigh}
 use Rattle.helios_top.specs.declared.ending.Ending.{Ending}
 use Rattle.helios_top.specs.declared.ending.Ending.TheVariants.{Usage}
 use Rattle.helios_top.specs.Ending.{RefusedOr}
@@ -12,6 +12,7 @@ use Rattle.helios_top.specs.Refusals.{form_refusal_of}
 use Rattle.helios_top.specs.Replays.{IsScheduleAnswer}
 use Rattle.helios_top.specs.Runs.Audit.{IsAuditAnswer}
 use Rattle.helios_top.specs.Runs.Check.{IsCheckAnswer}
+use Rattle.helios_top.specs.Runs.Dump.{IsDumpAnswer}
 use Rattle.helios_top.specs.Runs.Plan.{IsPlanAnswer}
 use Rattle.helios_top.specs.Runs.Trial.{IsTrialAnswer}
 use Rattle.helios_top.specs.Runs.Weigh.{IsWeighAnswer}
@@ -25,6 +26,7 @@ IsAnswer Check ending bytes = IsCheckAnswer ending bytes
 IsAnswer Plan ending bytes = IsPlanAnswer ending bytes
 IsAnswer Audit ending bytes = IsAuditAnswer ending bytes
 IsAnswer Weigh ending bytes = IsWeighAnswer ending bytes
+IsAnswer (Dump site) ending bytes = IsDumpAnswer site ending bytes
 
 -- the end over what the command goes by
 abbrev pub EndsOver : Command → List ℕ → Ending → Type 0

@@ -6,7 +6,7 @@ use Rattle.schedule_text.specs.Reading.{schedule_of_text}
 use Rattle.helios_top.specs.declared.replay.Told.{Told}
 use Rattle.helios_top.specs.declared.replay.Told.TheVariants as told
 use Rattle.helios_top.specs.declared.words.Command.{Command}
-use Rattle.helios_top.specs.declared.words.Command.TheVariants.{Audit, Check, History, Plan, Replay, Trial, Weigh}
+use Rattle.helios_top.specs.declared.words.Command.TheVariants.{Audit, Check, Dump, History, Plan, Replay, Trial, Weigh}
 use Rattle.helios_top.specs.declared.ending.Ending.{Ending}
 use Rattle.helios_top.specs.Replays.{IsBeforeReplay, IsLeftBy, ReplayLeaves}
 use Rattle.helios_top.specs.Runs.Trial.{TrialLeaves}
@@ -20,6 +20,7 @@ Leaves Check old new held left ending = left ≡ held
 Leaves Plan old new held left ending = left ≡ held
 Leaves Audit old new held left ending = left ≡ held
 Leaves Weigh old new held left ending = left ≡ held
+Leaves (Dump site) old new held left ending = left ≡ held
 
 -- the bench after the end of a run: words that name no command leave it as before
 abbrev pub BenchAfter : Option Command → SourceSeen → SourceSeen → List MemState → List MemState → Ending → Type 0
@@ -38,3 +39,4 @@ LeavesOver Check bytes held left ending = left ≡ held
 LeavesOver Plan bytes held left ending = left ≡ held
 LeavesOver Audit bytes held left ending = left ≡ held
 LeavesOver Weigh bytes held left ending = left ≡ held
+LeavesOver (Dump site) bytes held left ending = left ≡ held

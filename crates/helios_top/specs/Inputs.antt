@@ -7,7 +7,7 @@ use Rattle.helios_top.specs.declared.words.Command.{Command}
 use Rattle.helios_top.specs.declared.ending.Refusal.{Refusal}
 use Rattle.helios_top.specs.declared.ending.Refusal.TheVariants.{TooLarge}
 use Rattle.helios_top.specs.declared.ending.Ending.{Ending}
-use Rattle.helios_top.specs.declared.ending.Ending.TheVariants.{Usage, ReadFault, NoMemory, Refused, Printed, Judged, Audited}
+use Rattle.helios_top.specs.declared.ending.Ending.TheVariants.{Usage, ReadFault, NoMemory, Refused, DiskFault, JournalRefused, Printed, Judged, Audited}
 use Rattle.helios_top.specs.Outside.{most_input_bytes}
 use Rattle.helios_top.specs.Refusals.{form_refusal_of, reads_input}
 
@@ -42,6 +42,8 @@ ReadsInput command old new Usage Answers = ⊥
 ReadsInput command old new ReadFault Answers = IsReadFault command old new
 ReadsInput command old new NoMemory Answers = TakesAtMost (most_input_bytes + 1) old.left new.left
 ReadsInput command old new (Refused refusal) Answers = IsRefusedInput command old new refusal
+ReadsInput command old new DiskFault Answers = IsAnsweredInput command old new Answers
+ReadsInput command old new (JournalRefused refusal) Answers = IsAnsweredInput command old new Answers
 ReadsInput command old new (Printed text) Answers = IsAnsweredInput command old new Answers
 ReadsInput command old new (Judged verdict) Answers = IsAnsweredInput command old new Answers
 ReadsInput command old new (Audited verdict) Answers = IsAnsweredInput command old new Answers

@@ -1,8 +1,10 @@
 pub mod Answers
 pub mod Benches
+pub mod Disks
 pub mod Ending
 pub mod Inputs
 pub mod IsRun
+pub mod Journals
 pub mod Outside
 pub mod Refusals
 pub mod Replays

@@ -1,7 +1,10 @@
 -- Why a command refuses what it goes by, in the order of the ends of a run: the length of the input first, then its form.
 use Rattle.std.specs.Prelude.{Bool, true, false, not, ◌&&◌, ℕ, List, length, nat_lt, Option, Some, None, option_map, Result, Ok, Err, if◌then◌else◌}
+use Rattle.commit_offsets.specs.declared.refusal.PlanRefusal.{PlanRefusal}
 use Rattle.commit_offsets.specs.Reading.{plan_of_text}
-use Rattle.helios_model.specs.Plans.{MatrixData}
+use Rattle.helios_model.specs.Plans.{MatrixData, PlanData, count_of}
+use Rattle.helios_model.specs.declared.plans.Certificate.{Certificate}
+use Rattle.helios_model.specs.Short.{first_short_of}
 use Rattle.history_audit.specs.Reading.{history_of_text}
 use Rattle.rtt_matrix.specs.declared.refusal.MatrixRefusal.{MatrixRefusal}
 use Rattle.rtt_matrix.specs.Reading.{matrix_of_text}
@@ -11,9 +14,9 @@ use Rattle.schedule_text.specs.Reading.{schedule_of_text}
 use Rattle.schedule_replay.specs.Refusals.{first_refusal}
 use Rattle.weighted_plan.specs.Reading.{weights_of_text}
 use Rattle.helios_top.specs.declared.words.Command.{Command}
-use Rattle.helios_top.specs.declared.words.Command.TheVariants.{Audit, Check, History, Plan, Replay, Trial, Weigh}
+use Rattle.helios_top.specs.declared.words.Command.TheVariants.{Audit, Check, Dump, History, Plan, Replay, Trial, Weigh}
 use Rattle.helios_top.specs.declared.ending.Refusal.{Refusal}
-use Rattle.helios_top.specs.declared.ending.Refusal.TheVariants.{OfHistory, OfMatrix, OfPlan, OfReplay, OfSchedule, OfWeights, TooLarge}
+use Rattle.helios_top.specs.declared.ending.Refusal.TheVariants.{NoSuchSite, OfHistory, OfMatrix, OfPlan, OfReplay, OfSchedule, OfWeights, ShortPair, TooLarge}
 use Rattle.helios_top.specs.Outside.{most_input_bytes}
 use Rattle.helios_top.specs.Trials.{trial_schedule}
 
@@ -40,6 +43,19 @@ abbrev pub weights_refusal_in : List ℕ → Result MatrixData MatrixRefusal →
 weights_refusal_in bytes (Ok matrix) = weights_refusal bytes matrix
 weights_refusal_in bytes (Err e) = Some (OfMatrix e)
 
+-- why a site of a plan is refused: the first two sites of the plan that do not reach their round trip, or that it has no such site
+abbrev pub pair_refusal : Option (ℕ × ℕ) → PlanData → ℕ → Option Refusal
+pair_refusal (Some pair) plan site = Some (ShortPair pair.0 pair.1)
+pair_refusal None plan site = if nat_lt site (count_of plan) then None else Some (NoSuchSite site)
+
+abbrev pub site_refusal : PlanData → ℕ → Option Refusal
+site_refusal plan site = pair_refusal (first_short_of plan) plan site
+
+-- a text that is no plan is refused by its reader, and a plan by the site
+abbrev pub site_refusal_in : ℕ → Result (PlanData × Certificate) PlanRefusal → Option Refusal
+site_refusal_in site (Ok read) = site_refusal read.0 site
+site_refusal_in site (Err e) = Some (OfPlan e)
+
 -- whether the command reads the input
 abbrev pub reads_input : Command → Bool
 reads_input Replay = true
@@ -49,6 +65,7 @@ reads_input Check = true
 reads_input Plan = true
 reads_input Audit = true
 reads_input Weigh = true
+reads_input (Dump site) = true
 
 -- whether a run of these words leaves the input as it is
 abbrev pub leaves_input : Option Command → Bool
@@ -64,6 +81,7 @@ form_refusal_of Check bytes = refusal_in OfPlan (plan_of_text bytes)
 form_refusal_of Plan bytes = refusal_in OfMatrix (matrix_of_text bytes)
 form_refusal_of Audit bytes = refusal_in OfHistory (history_of_text bytes)
 form_refusal_of Weigh bytes = weights_refusal_in bytes (matrix_of_text bytes)
+form_refusal_of (Dump site) bytes = site_refusal_in site (plan_of_text bytes)
 
 -- why the command refuses the bytes; none where it accepts them
 abbrev pub refusal_of : Command → List ℕ → Option Refusal

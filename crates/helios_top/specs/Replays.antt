@@ -24,9 +24,9 @@ use Rattle.schedule_replay.specs.Seats.{BenchStands}
 use Rattle.helios_top.specs.declared.replay.Told.{Told}
 use Rattle.helios_top.specs.declared.replay.Told.TheVariants as told
 use Rattle.helios_top.specs.declared.ending.Refusal.{Refusal}
-use Rattle.helios_top.specs.declared.ending.Refusal.TheVariants.{OfHistory, OfMatrix, OfPlan, OfReplay, OfSchedule, OfWeights, TooLarge}
+use Rattle.helios_top.specs.declared.ending.Refusal.TheVariants.{NoSuchSite, OfHistory, OfMatrix, OfPlan, OfReplay, OfSchedule, OfWeights, ShortPair, TooLarge}
 use Rattle.helios_top.specs.declared.ending.Ending.{Ending}
-use Rattle.helios_top.specs.declared.ending.Ending.TheVariants.{Usage, ReadFault, NoMemory, Refused, Printed, Judged, Audited}
+use Rattle.helios_top.specs.declared.ending.Ending.TheVariants.{Usage, ReadFault, NoMemory, Refused, DiskFault, JournalRefused, Printed, Judged, Audited}
 use Rattle.helios_top.specs.Inputs.{ReadWhole}
 use Rattle.helios_top.specs.Trials.{trial_line}
 
@@ -84,6 +84,8 @@ IsLeftRefused schedule bench (OfPlan refusal) = ⊥
 IsLeftRefused schedule bench (OfMatrix refusal) = ⊥
 IsLeftRefused schedule bench (OfHistory refusal) = ⊥
 IsLeftRefused schedule bench (OfWeights refusal) = ⊥
+IsLeftRefused schedule bench (ShortPair i j) = ⊥
+IsLeftRefused schedule bench (NoSuchSite site) = ⊥
 
 -- The bench after the replay of a schedule, by its end. Status 0: each site's disk holds its journal in the world that is reported. 5: each holds its
 -- journal in the world before the refused step. 4: each holds its journal in the world between two steps, or within one.
@@ -92,6 +94,8 @@ IsLeftBy what schedule bench Usage = ⊥
 IsLeftBy what schedule bench ReadFault = ⊥
 IsLeftBy what schedule bench NoMemory = IsCutShort schedule.plan schedule.steps bench
 IsLeftBy what schedule bench (Refused refusal) = IsLeftRefused schedule bench refusal
+IsLeftBy what schedule bench DiskFault = ⊥
+IsLeftBy what schedule bench (JournalRefused refusal) = ⊥
 IsLeftBy what schedule bench (Printed text) =
     IsReplayed what schedule (Printed text) × BenchStands schedule.plan (reached schedule.plan schedule.steps) bench
 IsLeftBy what schedule bench (Judged verdict) = ⊥
@@ -106,6 +110,8 @@ IsOfText (OfPlan refusal) = ⊥
 IsOfText (OfMatrix refusal) = ⊥
 IsOfText (OfHistory refusal) = ⊥
 IsOfText (OfWeights refusal) = ⊥
+IsOfText (ShortPair i j) = ⊥
+IsOfText (NoSuchSite site) = ⊥
 
 -- an end that comes before the replay: 2, or 4, or 5 with a refusal of the text
 abbrev pub IsBeforeReplay : Ending → Type 0
@@ -113,6 +119,8 @@ IsBeforeReplay Usage = ⊥
 IsBeforeReplay ReadFault = Unit {0}
 IsBeforeReplay NoMemory = Unit {0}
 IsBeforeReplay (Refused refusal) = IsOfText refusal
+IsBeforeReplay DiskFault = ⊥
+IsBeforeReplay (JournalRefused refusal) = ⊥
 IsBeforeReplay (Printed text) = ⊥
 IsBeforeReplay (Judged verdict) = ⊥
 IsBeforeReplay (Audited verdict) = ⊥

@@ -2,8 +2,10 @@ ghost use Rattle.std.specs.Prelude.{◌≡◌, ◌++◌, Some, IfOk, string_byte
 ghost use Rattle.helios_top.specs.Ending.{refusal_text, status_of, text_of};
 ghost use Rattle.helios_top.specs.Verdicts.{audit_line, audit_status, stale_line, verdict_status, verdict_text};
 
+use crate::JournalRefusal;
+use crate::journal::journal_line;
 use commit_offsets::PlanRefusal;
-use helios_model::{Bytes, Key, Version};
+use helios_model::{Bytes, Key, SiteId, Version};
 use history_audit::{AuditVerdict, HistoryRefusal};
 use plan_certificate::Verdict;
 use rtt_matrix::MatrixRefusal;
@@ -34,6 +36,10 @@ pub enum Refusal {
     OfHistory(HistoryRefusal),
     /// The weights of a text whose matrix was read break a rule.
     OfWeights(WeightsRefusal),
+    /// The first two sites of the plan, row by row, whose latencies together don't reach their round trip.
+    ShortPair(SiteId, SiteId),
+    /// The plan has no such site.
+    NoSuchSite(SiteId),
 }
 
 /// How a run ends.
@@ -47,6 +53,10 @@ pub enum Ending {
     NoMemory,
     /// The command refuses its input.
     Refused(Refusal),
+    /// A call on the disk failed.
+    DiskFault,
+    /// The journal on the disk is refused.
+    JournalRefused(JournalRefusal),
     /// The text that the command prints.
     Printed(Bytes),
     /// The verdict on a plan.
@@ -67,6 +77,15 @@ impl fmt::Display for Refusal {
             Refusal::OfMatrix(refusal) => write!(f, "{refusal}"),
             Refusal::OfHistory(refusal) => write!(f, "{refusal}"),
             Refusal::OfWeights(refusal) => write!(f, "{refusal}"),
+            Refusal::ShortPair(i, j) => {
+                let i = i.number();
+                let j = j.number();
+                write!(f, "short-pair {i} {j}")
+            }
+            Refusal::NoSuchSite(site) => {
+                let site = site.number();
+                write!(f, "no-such-site {site}")
+            }
         }
     }
 }
@@ -166,6 +185,8 @@ impl Ending {
             Ending::ReadFault => 2,
             Ending::NoMemory => 4,
             Ending::Refused(_) => 5,
+            Ending::DiskFault => 6,
+            Ending::JournalRefused(_) => 8,
             Ending::Printed(_) => 0,
             Ending::Judged(verdict) => verdict_status(verdict),
             Ending::Audited(verdict) => audit_status(verdict),
@@ -182,6 +203,8 @@ impl Ending {
             Ending::ReadFault => Ok(text_from(format!(in alloc; "fault read\n")?)),
             Ending::NoMemory => Ok(text_from(format!(in alloc; "fault memory\n")?)),
             Ending::Refused(refusal) => Ok(text_from(format!(in alloc; "refused {refusal}\n")?)),
+            Ending::DiskFault => Ok(text_from(format!(in alloc; "fault disk\n")?)),
+            Ending::JournalRefused(refusal) => journal_line(alloc, &refusal),
             Ending::Printed(text) => Ok(text),
             Ending::Judged(verdict) => {
                 let verdict = VerdictText(verdict);
@@ -192,7 +215,8 @@ impl Ending {
     }
 }
 
-fn text_from(line: String) -> Bytes
+/// The bytes of a line.
+pub(crate) fn text_from(line: String) -> Bytes
     ensures { result ≡ string_bytes line }
 {
     Bytes::new(line.into_bytes())

@@ -4,52 +4,69 @@ ghost use Rattle.outside_io.specs.Whole.{TakesAtMost};
 ghost use Rattle.helios_top.specs.declared.ending.Ending.{Ending};
 ghost use Rattle.helios_top.specs.Answers.{EndsBy, EndsOver, IsAnswer};
 ghost use Rattle.helios_top.specs.Benches.{BenchAfter, Leaves, LeavesOver};
+ghost use Rattle.helios_top.specs.Disks.{DiskAfter, DiskOver};
 ghost use Rattle.helios_top.specs.Ending.{Came, WroteText, end_of, text_of};
 ghost use Rattle.helios_top.specs.Inputs.{ReadsInput};
 ghost use Rattle.helios_top.specs.IsRun.{IsRun};
-ghost use Rattle.helios_top.specs.Outside.{Outside, most_input_bytes};
+ghost use Rattle.helios_top.specs.Outside.{Outside, disk_seen, most_input_bytes};
 ghost use Rattle.helios_top.specs.Refusals.{leaves_input, reads_input};
 ghost use Rattle.helios_top.specs.Words.{command_of, texts};
 
 use crate::replay::Told;
 use crate::words::read_words;
 use crate::{
-    Command, Ending, INPUT_LIMIT, Refusal, Status, audit, check, plan, replay, trial, weigh,
+    Command, Ending, INPUT_LIMIT, Refusal, Status, audit, check, dump, plan, replay, trial, weigh,
 };
-use disk_store::Bench;
+use disk_store::{Bench, Disk};
 use outside_io::{InputError, Sink, Source, read_whole, write_whole};
 use std::alloc::{AllocError, Global};
 
 /// Does what the words ask for, which are without the program's own name: reads the input, writes
 /// one text or one line, and gives the exit status. A replay runs its sites over the disks of the
-/// bench, which it makes empty first; all else leaves the bench as it is. A trial reads no input.
-pub fn run<S: Source, K: Sink>(
+/// bench, which it makes empty first; all else leaves the bench as it is. A dump reads the journal on the disk, which
+/// all else leaves as it is. A trial reads no input.
+pub fn run<S: Source, K: Sink, D: Disk>(
     alloc: Global,
     words: &Vec<String>,
     input: &mut S,
     output: &mut K,
+    disk: &mut D,
     bench: &mut Bench,
 ) -> Status
-    ensures run { let before : Outside = record { input = S.seen input.old; output = K.seen output.old; bench = bench.old } in
-        let after : Outside = record { input = S.seen input.new; output = K.seen output.new; bench = bench.new } in
+    ensures run { let before : Outside = record {
+      input = S.seen input.old;
+      output = K.seen output.old;
+      disk = disk_seen D.state D.past D.outlook D.keeps D.faults disk.old;
+      bench = bench.old;
+    } in
+        let after : Outside = record {
+          input = S.seen input.new;
+          output = K.seen output.new;
+          disk = disk_seen D.state D.past D.outlook D.keeps D.faults disk.new;
+          bench = bench.new;
+        } in
         IsRun (texts words.now.items) before after result.0 }
     ensures unread { leaves_input (command_of (texts words.now.items)) ≡ true → input.new ≡ input.old }
 {
-    let ending = ending_of(alloc, words, input, bench);
+    let ending = ending_of(alloc, words, input, disk, bench);
     let status = write_ending(alloc, output, ending);
     Status(status)
 }
 
 /// The end of a run, before anything is written.
 #[tactic(auto, using(crate::proofs::Inputs::takes_nothing))]
-fn ending_of<S: Source>(
+fn ending_of<S: Source, D: Disk>(
     alloc: Global,
     words: &Vec<String>,
     input: &mut S,
+    disk: &mut D,
     bench: &mut Bench,
 ) -> Ending
     ensures unread { leaves_input (command_of (texts words.now.items)) ≡ true → input.new ≡ input.old }
     ensures ends { EndsBy (command_of (texts words.now.items)) (S.seen input.old) (S.seen input.new) result }
+    ensures disk { DiskAfter (command_of (texts words.now.items)) (S.seen input.old) (S.seen input.new)
+        (disk_seen D.state D.past D.outlook D.keeps D.faults disk.old)
+        (disk_seen D.state D.past D.outlook D.keeps D.faults disk.new) result }
     ensures leaves { BenchAfter (command_of (texts words.now.items)) (S.seen input.old) (S.seen input.new) bench.old bench.new result }
     ensures steady { result ≢ Ending.ReadFault → (S.seen input.new).faults ≡ (S.seen input.old).faults }
     ensures tells { StaysTold (S.seen input.old).left (S.seen input.new).left }
@@ -58,20 +75,24 @@ fn ending_of<S: Source>(
 {
     match read_words(words) {
         None => Ending::Usage,
-        Some(command) => ending_of_command(alloc, command, input, bench),
+        Some(command) => ending_of_command(alloc, command, input, disk, bench),
     }
 }
 
 /// The end of a command.
-#[tactic(auto, using(crate::proofs::Inputs::takes_nothing, crate::proofs::Inputs::answers_unread, crate::proofs::Benches::bench_unread))]
-fn ending_of_command<S: Source>(
+#[tactic(auto, using(crate::proofs::Inputs::takes_nothing, crate::proofs::Inputs::answers_unread, crate::proofs::Benches::bench_unread, crate::proofs::Disks::disk_unread))]
+fn ending_of_command<S: Source, D: Disk>(
     alloc: Global,
     command: Command,
     input: &mut S,
+    disk: &mut D,
     bench: &mut Bench,
 ) -> Ending
     ensures unread { leaves_input (Some command) ≡ true → input.new ≡ input.old }
     ensures ends { ReadsInput command (S.seen input.old) (S.seen input.new) result (IsAnswer command result) }
+    ensures disk { DiskAfter (Some command) (S.seen input.old) (S.seen input.new)
+        (disk_seen D.state D.past D.outlook D.keeps D.faults disk.old)
+        (disk_seen D.state D.past D.outlook D.keeps D.faults disk.new) result }
     ensures leaves { Leaves command (S.seen input.old) (S.seen input.new) bench.old bench.new result }
     ensures steady { result ≢ Ending.ReadFault → (S.seen input.new).faults ≡ (S.seen input.old).faults }
     ensures tells { StaysTold (S.seen input.old).left (S.seen input.new).left }
@@ -79,22 +100,26 @@ fn ending_of_command<S: Source>(
     ensures most { TakesAtMost (most_input_bytes + 1) (S.seen input.old).left (S.seen input.new).left }
 {
     if command.reads_input() {
-        read_and_answer(alloc, command, input, bench)
+        read_and_answer(alloc, command, input, disk, bench)
     } else {
-        answered(answer(alloc, command, &[], bench))
+        answered(answer(alloc, command, &[], disk, bench))
     }
 }
 
 /// The end of a command over its input.
-#[tactic(auto, using(crate::proofs::Inputs::answers_input, crate::proofs::Benches::bench_left))]
-fn read_and_answer<S: Source>(
+#[tactic(auto, using(crate::proofs::Inputs::answers_input, crate::proofs::Benches::bench_left, crate::proofs::Disks::disk_left, crate::proofs::Disks::disk_before))]
+fn read_and_answer<S: Source, D: Disk>(
     alloc: Global,
     command: Command,
     input: &mut S,
+    disk: &mut D,
     bench: &mut Bench,
 ) -> Ending
     requires { reads_input command ≡ true }
     ensures ends { ReadsInput command (S.seen input.old) (S.seen input.new) result (IsAnswer command result) }
+    ensures disk { DiskAfter (Some command) (S.seen input.old) (S.seen input.new)
+        (disk_seen D.state D.past D.outlook D.keeps D.faults disk.old)
+        (disk_seen D.state D.past D.outlook D.keeps D.faults disk.new) result }
     ensures leaves { Leaves command (S.seen input.old) (S.seen input.new) bench.old bench.new result }
     ensures steady { result ≢ Ending.ReadFault → (S.seen input.new).faults ≡ (S.seen input.old).faults }
     ensures tells { StaysTold (S.seen input.old).left (S.seen input.new).left }
@@ -102,7 +127,7 @@ fn read_and_answer<S: Source>(
     ensures most { TakesAtMost (most_input_bytes + 1) (S.seen input.old).left (S.seen input.new).left }
 {
     match read_whole(alloc, input, INPUT_LIMIT) {
-        Ok(Some(bytes)) => answered(answer(alloc, command, bytes.as_slice(), bench)),
+        Ok(Some(bytes)) => answered(answer(alloc, command, bytes.as_slice(), disk, bench)),
         Ok(None) => Ending::Refused(Refusal::TooLarge),
         Err(InputError::Failed) => Ending::ReadFault,
         Err(InputError::NoMemory) => Ending::NoMemory,
@@ -119,13 +144,16 @@ fn answered(answer: Result<Ending, AllocError>) -> Ending
 }
 
 /// The end of a command over what it goes by: its whole input, or nothing.
-fn answer(
+fn answer<D: Disk>(
     alloc: Global,
     command: Command,
     input: &[u8],
+    disk: &mut D,
     bench: &mut Bench,
 ) -> Result<Ending, AllocError>
     ensures ends { IfOk result (EndsOver command input.now) }
+    ensures disk { DiskOver command input.now (disk_seen D.state D.past D.outlook D.keeps D.faults disk.old)
+        (disk_seen D.state D.past D.outlook D.keeps D.faults disk.new) (end_of result) }
     ensures leaves { LeavesOver command input.now bench.old bench.new (end_of result) }
 {
     match command {
@@ -136,6 +164,7 @@ fn answer(
         Command::Plan => plan::answer(alloc, input),
         Command::Audit => audit::answer(alloc, input),
         Command::Weigh => weigh::answer(alloc, input),
+        Command::Dump(site) => dump::answer(alloc, site, input, disk),
     }
 }
 

@@ -1,8 +1,8 @@
 ghost use Rattle.std.specs.Prelude.{◌≡◌};
 ghost use Rattle.helios_top.specs.Refusals.{reads_input};
-ghost use Rattle.helios_top.specs.Words.{command_alone, command_of, command_with, history_asked, texts, trial_of};
+ghost use Rattle.helios_top.specs.Words.{command_alone, command_of, command_with, dump_at, dump_of, history_asked, texts, trial_of};
 
-use helios_model::number_from;
+use helios_model::{MOST_SITES, SiteId, number_from};
 
 /// What the words of a command line ask for.
 #[derive(Clone, Copy, Debug, PartialEq, Eq)]
@@ -21,12 +21,14 @@ pub enum Command {
     Audit,
     /// The plan of a matrix with the least weighted sum of latencies.
     Weigh,
+    /// The records of the log of a site, by its journal.
+    Dump(SiteId),
 }
 
 impl Command {
     /// Whether the command reads the input.
-    pub(crate) fn reads_input(self) -> bool
-        ensures { result ≡ reads_input self }
+    pub(crate) fn reads_input(&self) -> bool
+        ensures { result ≡ reads_input self.now }
     {
         match self {
             Command::Trial(_) => false,
@@ -35,7 +37,8 @@ impl Command {
             | Command::Check
             | Command::Plan
             | Command::Audit
-            | Command::Weigh => true,
+            | Command::Weigh
+            | Command::Dump(_) => true,
         }
     }
 }
@@ -71,6 +74,7 @@ fn command_with(word: &str, argument: &str) -> Option<Command>
     match word {
         "replay" => history_asked(argument),
         "trial" => trial_of(argument),
+        "dump" => dump_of(argument),
         _ => None,
     }
 }
@@ -89,4 +93,21 @@ fn trial_of(argument: &str) -> Option<Command>
 {
     let number = number_from(argument)?;
     Some(Command::Trial(number))
+}
+
+fn dump_of(argument: &str) -> Option<Command>
+    ensures { result ≡ dump_of argument.now }
+{
+    let number = number_from(argument)?;
+    dump_at(number)
+}
+
+fn dump_at(number: u64) -> Option<Command>
+    ensures { result ≡ dump_at number }
+{
+    if number < u64::from(MOST_SITES) {
+        Some(Command::Dump(SiteId::of(number as u8)))
+    } else {
+        None
+    }
 }

@@ -1,7 +1,7 @@
 // What stands on the bench after a run.
 use crate::replays::{EVEN, schedule_text};
 use crate::runs::{Outcome, outcome_of};
-use disk_store::{Bench, Disk};
+use disk_store::{Bench, Disk, MemDisk};
 use helios_model::SiteId;
 use outside_io::{MemSink, MemSource};
 use std::alloc::{AllocError, Global};
@@ -21,7 +21,8 @@ fn run_on(
     words.push(String::from_str(alloc, word)?)?;
     let source = MemSource::new(input, 64, Vec::new(alloc));
     let sink = MemSink::new(alloc, 10_000, 64, Vec::new(alloc))?;
-    outcome_of(alloc, &words, source, sink, bench)
+    let mut disk = MemDisk::new(Vec::new(alloc), 0)?;
+    outcome_of(alloc, &words, source, sink, &mut disk, bench)
 }
 
 /// Whether the journal of site 1 has that frame behind its head, and then this gate.

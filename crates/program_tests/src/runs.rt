@@ -1,6 +1,6 @@
 ghost use Rattle.std.specs.Prelude.{◌<◌};
 
-use disk_store::Bench;
+use disk_store::{Bench, MemDisk};
 use helios_top::run;
 use outside_io::{MemSink, MemSource};
 use std::alloc::{AllocError, Global};
@@ -55,18 +55,27 @@ pub(crate) fn run_in_room(
     }
     let source = MemSource::new(input, piece, reads.to_vec(alloc)?);
     let sink = MemSink::new(alloc, room, piece, writes.to_vec(alloc)?)?;
-    outcome_of(alloc, &texts, source, sink, &mut Bench::new(alloc)?)
+    let mut disk = MemDisk::new(Vec::new(alloc), 0)?;
+    outcome_of(
+        alloc,
+        &texts,
+        source,
+        sink,
+        &mut disk,
+        &mut Bench::new(alloc)?,
+    )
 }
 
-/// What a run over this source, this sink and this bench comes to.
+/// What a run over this source, this sink, this disk and this bench comes to.
 pub(crate) fn outcome_of(
     alloc: Global,
     words: &Vec<String>,
     mut source: MemSource,
     mut sink: MemSink,
+    disk: &mut MemDisk,
     bench: &mut Bench,
 ) -> Result<Outcome, AllocError> {
-    let status = run(alloc, words, &mut source, &mut sink, bench);
+    let status = run(alloc, words, &mut source, &mut sink, disk, bench);
     Ok(Outcome {
         status: status.0,
         written: sink.taken().to_vec(alloc)?,
@@ -76,7 +85,7 @@ pub(crate) fn outcome_of(
 
 #[test]
 fn takes_its_words_and_no_others(rt: HostRuntime) -> Result<(), Fail> {
-    let cases: [(&[&str], u8, &str); 20] = [
+    let cases: [(&[&str], u8, &str); 26] = [
         (&["replay"], 0, REPORT),
         (&["replay", "--history"], 0, "[]\n"),
         (&[], 1, USAGE),
@@ -95,6 +104,12 @@ fn takes_its_words_and_no_others(rt: HostRuntime) -> Result<(), Fail> {
         (&["trial", "+1"], 1, USAGE),
         (&["trial", "18446744073709551616"], 1, USAGE),
         (&["trial", "1", "2"], 1, USAGE),
+        (&["dump"], 1, USAGE),
+        (&["dump", ""], 1, USAGE),
+        (&["dump", "-1"], 1, USAGE),
+        (&["dump", "00"], 1, USAGE),
+        (&["dump", "32"], 1, USAGE),
+        (&["dump", "0", "1"], 1, USAGE),
         (&["Replay"], 1, USAGE),
         (&["--help"], 1, USAGE),
     ];

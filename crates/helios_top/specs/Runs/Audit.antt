@@ -22,3 +22,4 @@ IsAuditAnswer ending text = IsOkAnd (history_of_text text) (λ history. IsAudite
 pub record AuditRun (before after : Outside) (ending : Ending) : Type 0 where
   pub reads : ReadsInput Audit before.input after.input ending (IsAuditAnswer ending)
   pub bench : after.bench ≡ before.bench
+  pub disk : after.disk ≡ before.disk

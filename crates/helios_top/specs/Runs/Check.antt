@@ -34,3 +34,4 @@ IsCheckAnswer ending text = IsOkAnd (plan_of_text text) (λ read. IsJudged read.
 pub record CheckRun (before after : Outside) (ending : Ending) : Type 0 where
   pub reads : ReadsInput Check before.input after.input ending (IsCheckAnswer ending)
   pub bench : after.bench ≡ before.bench
+  pub disk : after.disk ≡ before.disk

@@ -33,3 +33,4 @@ IsPlanAnswer ending text = IsOkAnd (matrix_of_text text) (λ matrix. IsPlanned m
 pub record PlanRun (before after : Outside) (ending : Ending) : Type 0 where
   pub reads : ReadsInput Plan before.input after.input ending (IsPlanAnswer ending)
   pub bench : after.bench ≡ before.bench
+  pub disk : after.disk ≡ before.disk

@@ -27,3 +27,4 @@ pub record TrialRun (number : ℕ) (before after : Outside) (ending : Ending) : 
   pub unread : after.input ≡ before.input
   pub ends : TrialEnds number ending
   pub bench : TrialLeaves number before.bench after.bench ending
+  pub disk : after.disk ≡ before.disk

@@ -50,3 +50,4 @@ IsWeighAnswer ending text = IsOkAnd (matrix_of_text text) (IsWeighedText text en
 pub record WeighRun (before after : Outside) (ending : Ending) : Type 0 where
   pub reads : ReadsInput Weigh before.input after.input ending (IsWeighAnswer ending)
   pub bench : after.bench ≡ before.bench
+  pub disk : after.disk ≡ before.disk
