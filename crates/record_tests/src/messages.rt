@@ -1,6 +1,9 @@
 // Messages: their bytes with the digest, and where a reader refuses what is none.
 use helios_model::Record;
-use log_records::{DecodeFault, decode_message, encode_message, message_length};
+use log_records::{
+    DecodeFault, batches_can_be_written, decode_batch, decode_message, encode_batch,
+    encode_message, message_length,
+};
 use std::alloc::{AllocError, Global};
 use std::test::Fail;
 
@@ -224,5 +227,31 @@ fn the_longest_message_is_read_and_written_again(rt: HostRuntime) -> Result<(), 
             assert!(rt; bytes.items() == input.as_slice());
         }
     }
+    Ok(())
+}
+
+// Whether the whole input is a batch of thirty-two sites, which is written as it was read.
+fn is_batch_written_again(alloc: Global, input: &[u8]) -> Result<bool, Fail> {
+    batches_can_be_written();
+    match decode_batch(alloc, input, 32) {
+        Err(_) => Ok(false),
+        Ok(entries) => {
+            let bytes = encode_batch(alloc, &entries)?;
+            Ok(bytes.items() == input)
+        }
+    }
+}
+
+#[test]
+fn the_longest_batch_is_read_and_written_again(rt: HostRuntime) -> Result<(), Fail> {
+    let alloc = rt.alloc();
+    let message = longest(alloc)?;
+    let mut input = vec![in alloc; 16]?;
+    for _ in 0..16 {
+        input.extend_from_slice(&[255, 255, 255, 255, 255, 255, 255, 255, 3])?;
+        input.extend_from_slice(&message)?;
+    }
+    assert_eq!(rt; input.len(), 19_415_761);
+    assert!(rt; is_batch_written_again(alloc, &input)?);
     Ok(())
 }
